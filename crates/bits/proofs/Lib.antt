@@ -1,0 +1,9 @@
+-- The laws of the definitions in specs/, which the functions' proofs and the crates above cite.
+pub mod VerdictLaws
+pub mod FieldLaws
+pub mod ByteLaws
+pub mod NumberLaws
+pub mod HeaderLaws
+pub mod PutLaws
+pub mod Marked
+pub mod Theorems

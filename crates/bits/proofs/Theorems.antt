@@ -1,0 +1,64 @@
+-- The theorems of specs/Laws.antt. Assumes nothing.
+use Prim.Native.Nat.{ℕ, _+_, _*_, _/_, _%_, _^_, _≤_, _<_}
+use mathlib.Core.Path.{_≡_, sym, ap, _∙_}
+use mathlib.Core.Logic.{_⊎_, inl, inr}
+use mathlib.Core.List.{List}
+use native.Mathlib.Omega.{arith}
+use native.Mathlib.Nat.{mod-lt}
+use lib.ListN.{length, getD}
+use lib.Pow.{pow-pos}
+use Rattle.bits.specs.Field.{field}
+use Rattle.bits.specs.Put.{free, bitsPut, fieldPut}
+use Rattle.bits.specs.Laws.{FieldLaws, RunningLaws, WidthLaws, FieldPutLaws}
+use Rattle.bits.proofs.VerdictLaws.{le-or-lt}
+use Rattle.bits.proofs.FieldLaws.{field-lt, field-split, field-bytes, field-window, field-append, field-append-right, field-inj}
+use Rattle.bits.proofs.NumberLaws.{moves-meaning, meaning-moves, ran-moves, moves-ran, width-enough, width-least}
+use Rattle.bits.proofs.PutLaws.{field-put-yes, field-put-no, field-bitsPut, before-bitsPut, free-bitsPut, after-bitsPut, length-bitsPut, field-word-put}
+
+pub field-laws : FieldLaws
+field-laws =
+    record {
+      bound = field-lt;
+      split = field-split;
+      local = field-bytes;
+      window = field-window;
+      behind = field-append;
+      in-front = field-append-right;
+      equal = field-inj;
+    }
+
+pub running-laws : RunningLaws
+running-laws =
+    record {
+      zigzag = λ f last next. (moves-meaning last f next, meaning-moves last f next);
+      step = λ limit last f next. (ran-moves last f limit next, λ m. moves-ran last f limit next (m .0) (m .1));
+    }
+
+pub width-laws : WidthLaws
+width-laws = record { enough = width-enough; least = width-least }
+
+module _ (s : List ℕ) (p w x : ℕ) where
+  length-put : length (fieldPut s p w x) ≡ length s
+  length-put = go (le-or-lt (p + w) (8 * length s))
+    where
+      go : (p + w ≤ 8 * length s) ⊎ (8 * length s < p + w) → length (fieldPut s p w x) ≡ length s
+      go (inl h) = ap length (field-put-yes s p w x h) ∙ length-bitsPut s p w (x % 2 ^ w)
+      go (inr h) = ap length (field-put-no s p w x h)
+
+  module _ (h : p + w ≤ 8 * length s) where
+    low-bits : x % 2 ^ w < 2 ^ w
+    low-bits = mod-lt x (pow-pos w)
+
+    is : fieldPut s p w x ≡ bitsPut s p w (x % 2 ^ w)
+    is = field-put-yes s p w x h
+
+pub field-put-laws : FieldPutLaws
+field-put-laws =
+    record {
+      read-back = λ s p w x h. ap (λ (t : List ℕ). field t p w) (is s p w x h) ∙ field-bitsPut s p w (x % 2 ^ w) h (low-bits s p w x h);
+      before = λ s p w x q u h l. ap (λ (t : List ℕ). field t q u) (is s p w x h) ∙ before-bitsPut s p w (x % 2 ^ w) h (low-bits s p w x h) q u l;
+      free-bits = λ s p w x h. ap (λ (t : List ℕ). field t (p + w) (free p w)) (is s p w x h) ∙ free-bitsPut s p w (x % 2 ^ w) h (low-bits s p w x h);
+      after = λ s p w x k h l. ap (λ (t : List ℕ). getD t k 0) (is s p w x h) ∙ after-bitsPut s p w (x % 2 ^ w) h k (omega arith);
+      same-length = length-put;
+      word-back = field-word-put;
+    }

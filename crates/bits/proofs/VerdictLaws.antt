@@ -1,0 +1,50 @@
+-- The two ways through `within`, and what its verdict tells. Assumes nothing.
+use mathlib.Core.Path.{_≡_, refl}
+use mathlib.Core.Logic.{_⊎_, inl, inr}
+use mathlib.Core.Bool.{Bool, true, false}
+use mathlib.Core.List.{List}
+use Prim.Native.Nat.{ℕ, _≤_, _<_}
+use native.Mathlib.Omega.{arith}
+use lib.Dec.{leb}
+use borrow.Author.Tests.{le-leb, lt-leb, leb-true, leb-false}
+use Rattle.bits.specs.Verdict.{Verdict, accepted, needs, declined, within}
+
+pub le-or-lt : (m n : ℕ) → (m ≤ n) ⊎ (n < m)
+le-or-lt m n = go (leb m n) refl
+  where
+    go : (b : Bool) → leb m n ≡ b → (m ≤ n) ⊎ (n < m)
+    go true e = inl (leb-true m n e)
+    go false e = inr (leb-false m n e)
+
+module _ {A : Type 0} (m n : ℕ) (v : A) where
+  pub within-yes : (o : Verdict A) → m ≤ n → within m n v o ≡ accepted v
+  unfolding within
+  within-yes o h = simp (le-leb m n h)
+
+  pub within-no : (o : Verdict A) → n < m → within m n v o ≡ o
+  unfolding within
+  within-no o h = simp (lt-leb m n h)
+
+  -- a value was accepted: the test held, and it is this value
+  pub within-value : (k : ℕ) (u : A) → within m n v (declined k) ≡ accepted u → (m ≤ n) × (v ≡ u)
+  within-value k u e = go (le-or-lt m n)
+    where
+      go : (m ≤ n) ⊎ (n < m) → (m ≤ n) × (v ≡ u)
+      go (inl h) = let w = within-yes (declined k) h in (h, cc)
+      go (inr h) = let w = within-no (declined k) h in let z : _≡_ {A = ℕ} 0 1 = cc in absurd (omega arith)
+
+  -- it was declined: the test failed, and this is the number
+  pub within-refused : (k j : ℕ) → within m n v (declined k) ≡ declined j → (n < m) × (k ≡ j)
+  within-refused k j e = go (le-or-lt m n)
+    where
+      go : (m ≤ n) ⊎ (n < m) → (n < m) × (k ≡ j)
+      go (inl h) = let w = within-yes (declined k) h in let z : _≡_ {A = ℕ} 0 1 = cc in absurd (omega arith)
+      go (inr h) = let w = within-no (declined k) h in (h, cc)
+
+  -- the buffer is too short: the test failed, and these are the lengths
+  pub within-needs : (l j : List ℕ) → within m n v (needs l) ≡ needs j → (n < m) × (l ≡ j)
+  within-needs l j e = go (le-or-lt m n)
+    where
+      go : (m ≤ n) ⊎ (n < m) → (n < m) × (l ≡ j)
+      go (inl h) = let w = within-yes (needs l) h in let z : _≡_ {A = ℕ} 0 1 = cc in absurd (omega arith)
+      go (inr h) = let w = within-no (needs l) h in (h, cc)

@@ -1,0 +1,42 @@
+-- What reading at a place gives: the value and the place after it, or 3, too few bytes or bits. And what each answer says.
+use Prim.Native.Nat.{ℕ, _+_, _-_, _*_}
+use mathlib.Core.List.{List}
+use lib.ListN.{length}
+use Rattle.bits.specs.Verdict.{Verdict, accepted, declined, within}
+use Rattle.bits.specs.Field.{field, room}
+use Rattle.bits.specs.declared.bytes.ByteRead.{ByteRead}
+use Rattle.bits.specs.declared.bytes.ByteRead.the-variants as B
+use Rattle.bits.specs.declared.bytes.WordRead.{WordRead}
+use Rattle.bits.specs.declared.bytes.WordRead.the-variants as W
+use Rattle.bits.specs.declared.bytes.Seek.{Seek}
+use Rattle.bits.specs.declared.bytes.Seek.the-variants as S
+use Rattle.bits.specs.declared.fields.FieldRead.{FieldRead}
+use Rattle.bits.specs.declared.fields.FieldRead.the-variants as F
+
+-- the number of n bytes, big end first, from byte p on
+abbrev pub numberAt : ℕ → List ℕ → ℕ → Verdict (ℕ × ℕ)
+numberAt n s p = within (p + n) (length s) (field s (8 * p) (8 * n), p + n) (declined 3)
+
+-- the field of w bits from bit p on; a field of no bits is always complete
+abbrev pub fieldAt : List ℕ → ℕ → ℕ → Verdict (ℕ × ℕ)
+fieldAt s p w = within w (room s - p) (field s p w, p + w) (declined 3)
+
+-- byte place p, which may be the end
+abbrev pub placeIn : List ℕ → ℕ → Verdict ℕ
+placeIn s p = within p (length s) p (declined 3)
+
+abbrev pub byteSays : ByteRead → Verdict (ℕ × ℕ)
+byteSays (B.Value v c) = accepted (v, c .at)
+byteSays B.Short = declined 3
+
+abbrev pub wordSays : WordRead → Verdict (ℕ × ℕ)
+wordSays (W.Value v c) = accepted (v, c .at)
+wordSays W.Short = declined 3
+
+abbrev pub fieldSays : FieldRead → Verdict (ℕ × ℕ)
+fieldSays (F.Value v c) = accepted (v, c .bit)
+fieldSays F.Short = declined 3
+
+abbrev pub seekSays : Seek → Verdict ℕ
+seekSays (S.To c) = accepted (c .at)
+seekSays S.Short = declined 3

@@ -1,0 +1,14 @@
+-- What a call says, in the words of document 01: a value, the lengths that the lent buffers need (its number 12), or the number of a refusal.
+use Prim.Native.Nat.{ℕ}
+use mathlib.Core.List.{List}
+use mathlib.Core.Bool.{cond}
+use lib.Dec.{leb}
+
+pub data Verdict (A : Type 0) : Type 0 where
+  accepted : A → Verdict A
+  needs : List ℕ → Verdict A
+  declined : ℕ → Verdict A
+
+-- the value v where m is at most n, and the other verdict where it is not
+unfoldable pub within : {A : Type 0} → ℕ → ℕ → A → Verdict A → Verdict A
+within m n v other = cond (leb m n) (accepted v) other

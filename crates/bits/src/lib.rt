@@ -1,0 +1,28 @@
+// Bytes and bits of a payload: cursors, fields, zigzag numbers, box headers, floats, and the leaves of the writers.
+// What each call answers is an equation with a definition of specs/.
+mod bytes;
+mod fields;
+mod floats;
+mod headers;
+mod numbers;
+mod put;
+
+pub use bytes::ByteCursor;
+pub use bytes::ByteRead;
+pub use bytes::Seek;
+pub use bytes::WordRead;
+pub use fields::BitCursor;
+pub use fields::FieldRead;
+pub use floats::float_bits;
+pub use floats::nearest_f32;
+pub use floats::scale;
+pub use headers::BoxHeader;
+pub use headers::box_header;
+pub use numbers::Running;
+pub use numbers::bit_width;
+pub use numbers::run_on;
+pub use numbers::stepped;
+pub use numbers::zigzag;
+pub use put::Put;
+pub use put::put_field;
+pub use put::put_word;
