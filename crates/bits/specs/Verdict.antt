@@ -12,3 +12,13 @@ pub data Verdict (A : Type 0) : Type 0 where
 -- the value v where m is at most n, and the other verdict where it is not
 unfoldable pub within : {A : Type 0} → ℕ → ℕ → A → Verdict A → Verdict A
 within m n v other = cond (leb m n) (accepted v) other
+
+-- one step after another: the first refusal stands
+abbrev pub andThen : {A B : Type 0} → Verdict A → (A → Verdict B) → Verdict B
+andThen (accepted v) f = f v
+andThen (needs l) f = needs l
+andThen (declined k) f = declined k
+
+-- the same verdict on another value
+abbrev pub mapped : {A B : Type 0} → (A → B) → Verdict A → Verdict B
+mapped f v = andThen v (λ x. accepted (f x))

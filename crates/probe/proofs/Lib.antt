@@ -1,0 +1,3 @@
+-- The laws that the functions' proofs share.
+pub mod Handed
+pub mod Totals
