@@ -7,7 +7,7 @@ use Prim.Native.Nat.{ℕ, _≤_, _<_}
 use native.Mathlib.Omega.{arith}
 use lib.Dec.{leb}
 use borrow.Author.Tests.{le-leb, lt-leb, leb-true, leb-false}
-use Rattle.bits.specs.Verdict.{Verdict, accepted, needs, declined, within}
+use Rattle.bits.specs.Verdict.{Verdict, accepted, needs, declined, within, andThen}
 
 pub le-or-lt : (m n : ℕ) → (m ≤ n) ⊎ (n < m)
 le-or-lt m n = go (leb m n) refl
@@ -48,3 +48,18 @@ module _ {A : Type 0} (m n : ℕ) (v : A) where
       go : (m ≤ n) ⊎ (n < m) → (n < m) × (l ≡ j)
       go (inl h) = let w = within-yes (needs l) h in let z : _≡_ {A = ℕ} 0 1 = cc in absurd (omega arith)
       go (inr h) = let w = within-no (needs l) h in (h, cc)
+
+-- ---- one step after another
+
+module _ {A B : Type 0} where
+  -- both steps were accepted
+  pub then-value : (v : Verdict A) (f : A → Verdict B) (y : B) → andThen v f ≡ accepted y → (x : A) × (v ≡ accepted x) × (f x ≡ accepted y)
+  then-value (accepted x) f y e = (x, refl, e)
+  then-value (needs l) f y e = let z : _≡_ {A = ℕ} 0 1 = cc in absurd (omega arith)
+  then-value (declined k) f y e = let z : _≡_ {A = ℕ} 0 1 = cc in absurd (omega arith)
+
+  pub then-yes : (v : Verdict A) (f : A → Verdict B) (x : A) → v ≡ accepted x → andThen v f ≡ f x
+  then-yes v f x e = rw e
+
+  pub then-no : (v : Verdict A) (f : A → Verdict B) (k : ℕ) → v ≡ declined k → andThen v f ≡ declined k
+  then-no v f k e = rw e

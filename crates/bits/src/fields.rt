@@ -1,8 +1,8 @@
 // Bit fields, high bit first, read at a cursor by value beside the slice: the Rust's `BitReader`.
 use super::bytes::word_of;
 ghost use mathlib.Core.Path.{_≡_};
-ghost use Prim.Native.Nat.{_+_, _-_, _*_, _/_, _^_, _≤_, _<_};
-ghost use lib.ListN.{length, getD};
+ghost use Prim.Native.Nat.{_+_, _-_, _*_, _/_, _^_, _≤_, _<_, min};
+ghost use lib.ListN.{length};
 ghost use Rattle.bits.specs.Field.{field, capped, room};
 ghost use Rattle.bits.specs.Read.{fieldAt, fieldSays};
 
@@ -39,16 +39,6 @@ fn bits_left(s: &[u8], bit: usize) -> usize
     all - bit
 }
 
-// Byte i, or 0 past the end.
-fn byte_or_zero(s: &[u8], i: usize) -> u8
-    ensures { λ r. ⌜ r ≡ getD (now (s .entry)) i 0 ⌝ }
-{
-    if i < s.len() {
-        return s[i];
-    }
-    0
-}
-
 // Five bytes as a number, big end first.
 fn five_of(a: u8, b: u8, c: u8, d: u8, e: u8) -> u64
     ensures { λ r. ⌜ r ≡ (a * 2 ^ 24 + b * 2 ^ 16 + c * 2 ^ 8 + d) * 2 ^ 8 + e ⌝ }
@@ -56,24 +46,36 @@ fn five_of(a: u8, b: u8, c: u8, d: u8, e: u8) -> u64
     (word_of(a, b, c, d) as u64) * 0x100 + e as u64
 }
 
-// The 40 bits from byte at on, with 0 for what lies past the end: five bytes hold a field of 32 bits wherever it starts.
-fn window(s: &[u8], at: usize) -> u64
-    requires { ⌜ at < 2 ^ 62 ⌝ }
-    ensures { λ r. ⌜ r ≡ field (now (s .entry)) (8 * at) 40 ⌝ }
+// A byte as a wider number.
+fn wide(x: u8) -> u64
+    ensures { λ r. ⌜ (r ≡ x) × (r < 256) ⌝ }
 {
-    let n = s.len();
-    if 5 <= n {
-        if at <= n - 5 {
-            return five_of(s[at], s[at + 1], s[at + 2], s[at + 3], s[at + 4]);
-        }
+    x as u64
+}
+
+// The first n bytes as a number, big end first.
+fn first_bytes(s: &[u8], n: usize) -> u64
+    requires { ⌜ (n ≤ 5) × (n ≤ length (now s)) ⌝ }
+    ensures { λ r. ⌜ r ≡ field (now (s .entry)) 0 (8 * n) ⌝ }
+{
+    let mut x: u64 = 0;
+    let mut i = 0;
+    while i < n {
+        x = x * 256 + wide(s[i]);
+        i += 1;
     }
-    five_of(
-        byte_or_zero(s, at),
-        byte_or_zero(s, at + 1),
-        byte_or_zero(s, at + 2),
-        byte_or_zero(s, at + 3),
-        byte_or_zero(s, at + 4),
-    )
+    x
+}
+
+// The bytes before byte end as a number: the last five of them, which hold any field that ends there, or all where there are fewer.
+fn window(s: &[u8], end: usize) -> u64
+    requires { ⌜ end ≤ length (now s) ⌝ }
+    ensures { λ r. ⌜ r ≡ field (now (s .entry)) (8 * (end - 5)) (8 * min end 5) ⌝ }
+{
+    if end < 5 {
+        return first_bytes(s, end);
+    }
+    five_of(s[end - 5], s[end - 4], s[end - 3], s[end - 2], s[end - 1])
 }
 
 impl BitCursor {
@@ -93,12 +95,17 @@ impl BitCursor {
         ensures { λ r. ⌜ fieldSays r ≡ fieldAt (now (s .entry)) (self .bit) width ⌝ }
     {
         let bit = self.bit;
-        let wide = width as usize;
-        if bits_left(s, bit) < wide {
+        let size = width as usize;
+        if width == 0 {
+            return FieldRead::Value(0, BitCursor { bit });
+        }
+        if bits_left(s, bit) < size {
             return FieldRead::Short;
         }
-        let value = (window(s, bit / 8) >> (40 - bit % 8 - wide)) % (1u64 << width);
-        FieldRead::Value(value as u32, BitCursor { bit: bit + wide })
+        let next = bit + size;
+        let end = next / 8 + (next % 8 + 7) / 8;
+        let value = (window(s, end) >> ((8 - next % 8) % 8)) % (1u64 << width);
+        FieldRead::Value(value as u32, BitCursor { bit: next })
     }
 
     // The next place where a byte begins, or the same; the largest place where that is larger.

@@ -1,0 +1,61 @@
+-- Laws of a payload's limit, of the numbers in it, and of the version byte with its three free bytes. Assumes nothing.
+use mathlib.Core.Path.{_≡_, ap, _∙_}
+use mathlib.Core.Bool.{cond}
+use mathlib.Core.List.{List}
+use Prim.Native.Nat.{ℕ, _+_, _*_, _≤_, _<_}
+use native.Mathlib.Decide.{ℕ-discrete}
+use native.Mathlib.Omega.{arith}
+use lib.ListN.{length}
+use lib.Dec.{eqb}
+use borrow.Author.Tests.{le-leb, lt-leb, eq-eqb, ne-eqb}
+use Rattle.bits.specs.Verdict.{Verdict, accepted, declined}
+use Rattle.bits.specs.Field.{field}
+use Rattle.bits.specs.Read.{numberAt, placeIn}
+use Rattle.bits.proofs.VerdictLaws.{within-yes, within-value, then-value}
+use Rattle.payload.specs.Payload.{limited, fullBox}
+
+module _ {A : Type 0} (s : List ℕ) (v : Verdict A) where
+  pub limited-yes : length s ≤ 67108864 → limited s v ≡ v
+  unfolding limited
+  limited-yes h = simp (le-leb (length s) 67108864 h)
+
+  pub limited-no : 67108864 < length s → limited s v ≡ declined 2
+  unfolding limited
+  limited-no h = simp (lt-leb (length s) 67108864 h)
+
+-- ---- a number of n bytes that is there, and what one that was read tells
+
+module _ (n : ℕ) (s : List ℕ) (p : ℕ) where
+  pub number-there : p + n ≤ length s → numberAt n s p ≡ accepted (field s (8 * p) (8 * n), p + n)
+  number-there h = within-yes (p + n) (length s) (field s (8 * p) (8 * n), p + n) (declined 3) h
+
+  pub number-read : (v q : ℕ) → numberAt n s p ≡ accepted (v, q) → (p + n ≤ length s) × (field s (8 * p) (8 * n) ≡ v) × (p + n ≡ q)
+  number-read v q e =
+      let w = within-value (p + n) (length s) (field s (8 * p) (8 * n), p + n) 3 (v, q) e in
+      (w .0, ap (λ (x : ℕ × ℕ). x .0) (w .1), ap (λ (x : ℕ × ℕ). x .1) (w .1))
+
+-- ---- the version and the three free bytes
+
+module _ (s : List ℕ) where
+  pub full-box-there : 4 ≤ length s → field s 0 8 ≡ 0 → fullBox s ≡ accepted 4
+  unfolding fullBox
+  full-box-there h e = rw (number-there 1 s 0 (omega arith), e) (within-yes 4 (length s) 4 (declined 3) h)
+
+  pub full-box-read : (p : ℕ) → fullBox s ≡ accepted p → (4 ≤ length s) × (field s 0 8 ≡ 0) × (p ≡ 4)
+  unfolding fullBox
+  full-box-read p e =
+      let a = then-value (numberAt 1 s 0) _ p e in
+      let v = a .0 in
+      let r = number-read 1 s 0 (v .0) (v .1) (a .1) in
+      judge (v .0) (v .1) (r .1) (r .2) (ℕ-discrete (v .0) 0) (a .2)
+    where
+      judge : (x q : ℕ) → field s 0 8 ≡ x → 1 ≡ q → Dec (x ≡ 0) → cond (eqb x 0) (placeIn s (q + 3)) (declined 4) ≡ accepted p → (4 ≤ length s) × (field s 0 8 ≡ 0) × (p ≡ 4)
+      judge x q f g (yes z) h =
+          let w = within-value (q + 3) (length s) (q + 3) 3 p (rw (eq-eqb x 0 z) at h) in
+          let k : q + 3 ≡ p = w .1 in
+          let l : q + 3 ≤ length s = w .0 in
+          (omega arith, f ∙ z, omega arith)
+      judge x q f g (no z) h =
+          let d : declined 4 ≡ accepted p = rw (ne-eqb x 0 z) at h in
+          let w : _≡_ {A = ℕ} 0 1 = cc in
+          absurd (omega arith)

@@ -1,0 +1,105 @@
+//! What a call with lent words has to answer, and what it did with the words.
+
+use std::fmt;
+
+use crate::random::Random;
+
+const MOST_STORED: usize = 3;
+const ROOM: usize = MOST_STORED + 3;
+
+/// The answer that is due: its number, and the words that belong to it.
+pub struct Answer {
+    code: i64,
+    stored: [u64; MOST_STORED],
+    count: usize,
+}
+
+impl Answer {
+    fn new(code: i64, words: &[u64]) -> Answer {
+        let mut stored = [0; MOST_STORED];
+        stored[..words.len()].copy_from_slice(words);
+        Answer {
+            code,
+            stored,
+            count: words.len(),
+        }
+    }
+
+    pub fn words(words: &[u64]) -> Answer {
+        Answer::new(words.len() as i64, words)
+    }
+
+    pub fn place(place: usize) -> Answer {
+        Answer::words(&[place as u64])
+    }
+
+    pub fn refused(refusal: i64) -> Answer {
+        Answer::new(-refusal, &[])
+    }
+
+    pub fn words_or<const N: usize>(words: Option<[u64; N]>, refusal: i64) -> Answer {
+        words.map_or_else(|| Answer::refused(refusal), |words| Answer::words(&words))
+    }
+
+    pub fn needs(length: usize) -> Answer {
+        Answer::new(probe_sys::NEEDS, &[length as u64])
+    }
+
+    pub fn not_made() -> Answer {
+        Answer::new(probe_sys::NOT_MADE, &[])
+    }
+
+    fn reply(&self, lent: usize) -> Reply {
+        let mut words = pattern();
+        if self.count <= lent {
+            words[..self.count].copy_from_slice(&self.stored[..self.count]);
+        }
+        Reply {
+            code: self.code,
+            lent,
+            words,
+        }
+    }
+}
+
+/// The answer to one call, and the words after it: the lent ones and some beyond them.
+#[derive(PartialEq)]
+pub struct Reply {
+    code: i64,
+    lent: usize,
+    words: [u64; ROOM],
+}
+
+fn pattern() -> [u64; ROOM] {
+    std::array::from_fn(|i| 0xA5C3_0F1E_9687_5AB4 ^ i as u64)
+}
+
+impl fmt::Display for Reply {
+    fn fmt(&self, f: &mut fmt::Formatter) -> fmt::Result {
+        write!(f, "{} with", self.code)?;
+        for (word, before) in self.words.iter().zip(pattern()) {
+            if *word == before {
+                write!(f, " -")?;
+            } else {
+                write!(f, " {word}")?;
+            }
+        }
+        write!(f, " ({} words lent)", self.lent)
+    }
+}
+
+/// Makes a call with patterned words, now and then with too few. Gives our reply and the one due.
+pub fn ask(
+    random: &mut Random,
+    due: &Answer,
+    call: impl FnOnce(&mut [u64]) -> i64,
+) -> (Reply, Reply) {
+    let lent = match random.below(8) {
+        0 => random.below(MOST_STORED),
+        1 => random.pick(&[MOST_STORED + 1, MOST_STORED + 2]),
+        _ => MOST_STORED,
+    };
+    let mut words = pattern();
+    let code = call(&mut words[..lent]);
+    (Reply { code, lent, words }, due.reply(lent))
+}

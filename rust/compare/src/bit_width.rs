@@ -1,0 +1,15 @@
+use reference::mesh;
+
+use crate::options::Options;
+use crate::sweep::numbers;
+use crate::tally::Tally;
+
+pub fn run(options: &Options) -> Vec<Tally> {
+    numbers(
+        options,
+        "bit_width",
+        "against mesh::bit_width",
+        probe_sys::bit_width,
+        |count| i64::from(mesh::bit_width(count)),
+    )
+}

@@ -1,0 +1,119 @@
+use reference::mesh::Reader;
+
+use crate::answer::Answer;
+use crate::buffers::{largest, place, short_buffers, slice};
+use crate::options::Options;
+use crate::random::Random;
+use crate::tally::Tally;
+
+const NAME: &str = "cursors";
+const SHORT: i64 = 3;
+const RANDOM: u32 = 1_000_000;
+
+pub fn run(options: &Options) -> Vec<Tally> {
+    let what = "against mesh::Reader: new, position, remaining, seek, skip, u8, u32";
+    let mut tally = Tally::new(options, NAME, what);
+    let what = "nothing remains past the end";
+    let mut beyond = Tally::new(options, "cursors beyond the Rust", what);
+    let mut random = Random::new(options.seed, NAME);
+    new(&mut tally);
+    for data in short_buffers(&mut random, 4) {
+        for at in (0..=data.len() + 9).chain(largest()) {
+            reads(&mut tally, &mut beyond, &data, at);
+            for step in (0..=data.len() + 9).chain(largest()) {
+                steps(&mut tally, &data, at, step);
+            }
+        }
+    }
+    let pool = random.bytes(4096);
+    for _ in 0..RANDOM {
+        let data = slice(&mut random, &pool, 256);
+        let at = place(&mut random, data.len());
+        reads(&mut tally, &mut beyond, data, at);
+        steps(&mut tally, data, at, place(&mut random, data.len()));
+        steps(&mut tally, data, at, data.len().wrapping_sub(at));
+    }
+    vec![tally, beyond]
+}
+
+fn new(tally: &mut Tally) {
+    let due = Reader::new(&[]).position();
+    tally.call(&Answer::place(due), probe_sys::byte_new, || "new");
+}
+
+/// A reader at any place, also past the end.
+fn reader(data: &[u8], position: usize) -> Reader<'_> {
+    Reader { data, position }
+}
+
+fn reads(tally: &mut Tally, beyond: &mut Tally, data: &[u8], at: usize) {
+    position(tally, data, at);
+    byte(tally, data, at);
+    word(tally, data, at);
+    if at <= data.len() {
+        remaining(tally, data, at, reader(data, at).remaining());
+    } else {
+        remaining(beyond, data, at, 0);
+    }
+}
+
+fn steps(tally: &mut Tally, data: &[u8], at: usize, step: usize) {
+    seek(tally, data, at, step);
+    skip(tally, data, at, step);
+}
+
+fn position(tally: &mut Tally, data: &[u8], at: usize) {
+    tally.call(
+        &Answer::place(reader(data, at).position()),
+        |words| probe_sys::position(at, words),
+        || ("position", at),
+    );
+}
+
+fn remaining(tally: &mut Tally, data: &[u8], at: usize, due: usize) {
+    tally.call(
+        &Answer::place(due),
+        |words| probe_sys::remaining(data, at, words),
+        || ("remaining", data.to_vec(), at),
+    );
+}
+
+fn byte(tally: &mut Tally, data: &[u8], at: usize) {
+    let mut r = reader(data, at);
+    let value = r.u8();
+    tally.call(
+        &Answer::words_or(value.map(|v| [u64::from(v), r.position() as u64]), SHORT),
+        |words| probe_sys::u8(data, at, words),
+        || ("u8", data.to_vec(), at),
+    );
+}
+
+fn word(tally: &mut Tally, data: &[u8], at: usize) {
+    let mut r = reader(data, at);
+    let value = r.u32();
+    tally.call(
+        &Answer::words_or(value.map(|v| [u64::from(v), r.position() as u64]), SHORT),
+        |words| probe_sys::u32(data, at, words),
+        || ("u32", data.to_vec(), at),
+    );
+}
+
+fn seek(tally: &mut Tally, data: &[u8], at: usize, to: usize) {
+    let mut r = reader(data, at);
+    let done = r.seek(to);
+    tally.call(
+        &Answer::words_or(done.map(|()| [r.position() as u64]), SHORT),
+        |words| probe_sys::seek(data, at, to, words),
+        || ("seek", data.to_vec(), at, to),
+    );
+}
+
+fn skip(tally: &mut Tally, data: &[u8], at: usize, n: usize) {
+    let mut r = reader(data, at);
+    let done = r.skip(n);
+    tally.call(
+        &Answer::words_or(done.map(|()| [r.position() as u64]), SHORT),
+        |words| probe_sys::skip(data, at, n, words),
+        || ("skip", data.to_vec(), at, n),
+    );
+}

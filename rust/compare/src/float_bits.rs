@@ -1,0 +1,29 @@
+use crate::options::Options;
+use crate::sweep::{near, sweep};
+use crate::tally::Tally;
+
+const NAME: &str = "float_bits";
+const NAN: i64 = 0x7FC0_0000;
+
+pub fn run(options: &Options) -> Vec<Tally> {
+    let what =
+        "against f32::to_bits; a NaN gives 0x7fc00000, its sign and payload are not compared";
+    let mut tally = Tally::new(options, NAME, what);
+    sweep(options, NAME, |bits| check(&mut tally, bits));
+    if !options.long {
+        for exponent in 0..512 {
+            near(exponent << 23).for_each(|bits| check(&mut tally, bits));
+        }
+    }
+    vec![tally]
+}
+
+fn check(tally: &mut Tally, bits: u32) {
+    let x = f32::from_bits(bits);
+    let due = if x.is_nan() {
+        NAN
+    } else {
+        i64::from(x.to_bits())
+    };
+    tally.check(probe_sys::float_bits(x), due, || bits);
+}

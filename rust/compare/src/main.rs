@@ -1,0 +1,91 @@
+//! Compares the calls of libprobe.a with the Rust that they replace.
+//!
+//! `compare [--long] [--seed N] [SUBJECT]...`
+
+mod answer;
+mod bit_width;
+mod buffers;
+mod cursors;
+mod fields;
+mod float_bits;
+mod headers;
+mod nearest;
+mod options;
+mod put;
+mod put_field;
+mod put_word;
+mod random;
+mod run_on;
+mod scale;
+mod stepped;
+mod sum_fields;
+mod sweep;
+mod tally;
+mod zigzag;
+
+use std::process::ExitCode;
+
+use options::Options;
+use tally::Tally;
+
+type Subject = (&'static str, fn(&Options) -> Vec<Tally>);
+
+const SUBJECTS: [Subject; 13] = [
+    ("zigzag", zigzag::run),
+    ("bit_width", bit_width::run),
+    ("nearest", nearest::run),
+    ("scale", scale::run),
+    ("float_bits", float_bits::run),
+    ("run_on", run_on::run),
+    ("stepped", stepped::run),
+    ("fields", fields::run),
+    ("sum_fields", sum_fields::run),
+    ("cursors", cursors::run),
+    ("headers", headers::run),
+    ("put_word", put_word::run),
+    ("put_field", put_field::run),
+];
+
+fn main() -> ExitCode {
+    let parsed = Options::parse(std::env::args().skip(1)).and_then(known_subjects);
+    let options = match parsed {
+        Ok(options) => options,
+        Err(message) => {
+            eprintln!("compare: {message}");
+            return ExitCode::from(2);
+        }
+    };
+    if compare(&options) == 0 {
+        ExitCode::SUCCESS
+    } else {
+        ExitCode::FAILURE
+    }
+}
+
+fn known_subjects(options: Options) -> Result<Options, String> {
+    for word in &options.subjects {
+        if !SUBJECTS.iter().any(|(name, _)| name == word) {
+            let names = SUBJECTS.map(|(name, _)| name).join(" ");
+            return Err(format!("no subject {word} among {names}"));
+        }
+    }
+    Ok(options)
+}
+
+/// Runs the selected subjects, prints what they found, and gives the number of differences.
+fn compare(options: &Options) -> u64 {
+    println!("seed {}", options.seed);
+    let (mut inputs, mut differences) = (0, 0);
+    for (name, run) in SUBJECTS {
+        if !options.selects(name) {
+            continue;
+        }
+        for tally in run(options) {
+            tally.print();
+            inputs += tally.inputs();
+            differences += tally.differences();
+        }
+    }
+    println!("compared {inputs} inputs, {differences} differences");
+    differences
+}

@@ -1,0 +1,13 @@
+use crate::options::Options;
+use crate::sweep::numbers;
+use crate::tally::Tally;
+
+pub fn run(options: &Options) -> Vec<Tally> {
+    numbers(
+        options,
+        "nearest",
+        "bits against `v as f32`",
+        probe_sys::nearest,
+        |v| i64::from((v as f32).to_bits()),
+    )
+}

@@ -1,0 +1,13 @@
+use crate::options::Options;
+use crate::sweep::numbers;
+use crate::tally::Tally;
+
+pub fn run(options: &Options) -> Vec<Tally> {
+    numbers(
+        options,
+        "scale",
+        "bits against `scale` of mesh::parse_equi",
+        probe_sys::scale,
+        |v| i64::from((v as f32 / 4_294_967_296.0).to_bits()),
+    )
+}

@@ -1,0 +1,15 @@
+use reference::mesh;
+
+use crate::options::Options;
+use crate::sweep::numbers;
+use crate::tally::Tally;
+
+pub fn run(options: &Options) -> Vec<Tally> {
+    numbers(
+        options,
+        "zigzag",
+        "against mesh::zigzag",
+        probe_sys::zigzag,
+        |n| i64::from(mesh::zigzag(n)),
+    )
+}
