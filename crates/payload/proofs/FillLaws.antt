@@ -2,14 +2,15 @@
 use mathlib.Core.Path.{_≡_, refl, sym, ap, ap₂, _∙_}
 use mathlib.Core.List.{List, [], _∷_, _++_}
 use Prim.Native.Nat.{ℕ, zero, suc, _+_, _*_, _/_, _≤_, _<_}
-use native.Mathlib.Nat.{suc-mul, add-suc, suc-add, add-zero, zero-add, zero-mul}
+use mathlib.Core.Logic.{_⊎_, inl, inr}
+use native.Mathlib.Nat.{suc-mul, add-suc, suc-add, add-zero, zero-add, zero-mul, le-refl}
 use native.Mathlib.Numerals.{add-one}
 use native.Mathlib.Omega.{arith}
 use lib.ListN.{length, take, drop, set, length-append}
-use lib.Seq.{sets, sets-eq}
+use lib.Seq.{sets, sets-eq, length-sets}
 use borrow.Author.Tests.{le-leb, lt-leb}
 use Rattle.bits.specs.Verdict.{Verdict, accepted, needs, declined}
-use Rattle.bits.proofs.VerdictLaws.{within-yes, within-no}
+use Rattle.bits.proofs.VerdictLaws.{le-or-lt, within-yes, within-no}
 use Rattle.payload.specs.Fill.{each, answered, front}
 
 -- ---- pieces
@@ -21,6 +22,24 @@ each-zero f = refl
 pub each-more : (f : ℕ → List ℕ) (n : ℕ) → each f (n + 1) ≡ each f n ++ f n
 unfolding each
 each-more f n = rw add-one
+
+pub each-same : (f g : ℕ → List ℕ) → ((j : ℕ) → f j ≡ g j) → (n : ℕ) → each f n ≡ each g n
+unfolding each
+each-same f g e zero = refl
+each-same f g e (suc n) = ap₂ _++_ (each-same f g e n) (e n)
+
+pub each-grows : (f : ℕ → List ℕ) (n : ℕ) → length (each f (n + 1)) ≡ length (each f n) + length (f n)
+each-grows f n = ap length (each-more f n) ∙ length-append (each f n) (f n)
+
+-- there is room for piece j where there is room for n pieces
+pub each-room : (f : ℕ → List ℕ) (j n : ℕ) → j < n → length (each f j) + length (f j) ≤ length (each f n)
+unfolding each
+each-room f j zero h = absurd (omega arith)
+each-room f j (suc n) h = go (each-room f j n) (le-or-lt n j)
+  where
+    go : (j < n → length (each f j) + length (f j) ≤ length (each f n)) → (n ≤ j) ⊎ (j < n) → length (each f j) + length (f j) ≤ length (each f n ++ f n)
+    go r (inl l) = let e : j ≡ n = omega arith in rw (e, length-append) (le-refl _)
+    go r (inr l) = omega (arith, r l, length-append (each f n) (f n))
 
 -- pieces of one length
 pub each-length : (f : ℕ → List ℕ) (k : ℕ) → ((j : ℕ) → length (f j) ≡ k) → (n : ℕ) → length (each f n) ≡ n * k
@@ -34,12 +53,46 @@ pub sets-append : (p q d : List ℕ) (o : ℕ) → sets d o (p ++ q) ≡ sets (s
 sets-append [] q d o = ap (λ (k : ℕ). sets d k q) (sym (add-zero o))
 sets-append (x ∷ p) q d o = sets-append p q (set d o x) (suc o) ∙ ap (λ (k : ℕ). sets (sets (set d o x) (suc o) p) k q) (suc-add o (length p) ∙ sym (add-suc o (length p)))
 
+-- one run after another
+pub sets-then : (p q d l m : List ℕ) (o : ℕ) → l ≡ sets d o p → m ≡ sets l (o + length p) q → m ≡ sets d o (p ++ q)
+sets-then p q d l m o e h = h ∙ ap (λ (x : List ℕ). sets x (o + length p) q) e ∙ sym (sets-append p q d o)
+
 -- one piece more: l holds n pieces from o on, and w is the place after them
 pub sets-each : (f : ℕ → List ℕ) (n : ℕ) (d l : List ℕ) (o w : ℕ) → l ≡ sets d o (each f n) → w ≡ o + length (each f n) → sets l w (f n) ≡ sets d o (each f (n + 1))
 sets-each f n d l o w e h =
     ap₂ (λ (x : List ℕ) (k : ℕ). sets x k (f n)) e h
     ∙ sym (sets-append (each f n) (f n) d o)
     ∙ ap (λ (x : List ℕ). sets d o x) (sym (each-more f n))
+
+-- ---- a filling loop
+
+-- j of n pieces are in the list l, which was d, from the place o on, and w is the place after them
+pub record Filling (f : ℕ → List ℕ) (n : ℕ) (d : List ℕ) (o : ℕ) (l : List ℕ) (w j : ℕ) : Type 0 where
+  pub few : j ≤ n
+  pub place : w ≡ o + length (each f j)
+  pub list : l ≡ sets d o (each f j)
+
+pub filling-none : {f : ℕ → List ℕ} {n : ℕ} {d : List ℕ} {o : ℕ} → Filling f n d o d o 0
+unfolding each
+filling-none {f} {n} {d} {o} = record { few = omega arith; place = sym (add-zero o); list = refl }
+
+module _ {f : ℕ → List ℕ} {n : ℕ} {d : List ℕ} {o : ℕ} {l : List ℕ} {w j : ℕ} (i : Filling f n d o l w j) where
+  pub filling-length : length l ≡ length d
+  filling-length = ap length (i .list) ∙ length-sets d o (each f j)
+
+  -- there is room for the next piece where there is room for all
+  pub filling-room : j < n → o + length (each f n) ≤ length d → w + length (f j) ≤ length l
+  filling-room h r = omega (arith, each-room f j n h, filling-length)
+
+  pub filling-more : (r : List ℕ) (v : ℕ) → j < n → v ≡ w + length (f j) → r ≡ sets l w (f j) → Filling f n d o r v (j + 1)
+  filling-more r v h p q = record {
+    few = omega arith;
+    place = omega (arith, each-grows f j);
+    list = q ∙ sets-each f j d l o w (i .list) (i .place);
+  }
+
+  pub filling-all : n ≤ j → (w ≡ o + length (each f n)) × (l ≡ sets d o (each f n))
+  filling-all h = let e : n ≡ j = omega arith in rw e (i .place, i .list)
 
 -- ---- a filling call
 
@@ -60,12 +113,19 @@ module _ (u : ℕ) (l : List ℕ) (room : ℕ) where
   pub answered-no : room < length l → needs (length l ∷ []) ≡ answered u (accepted l) room
   answered-no h = sym (within-no (length l) room (length l / u) (needs (length l ∷ [])) h)
 
--- ---- a call whose list is judged first
+-- A call's answer and the buffer that it leaves, by what is to be put into it: v is refused, does not fit, or fits.
 
-module _ (u : ℕ) (plan : Verdict (List ℕ)) (out : List ℕ) where
-  pub refused : (k : ℕ) → plan ≡ declined k → (declined k ≡ answered u plan (length out)) × (out ≡ front plan out)
-  refused k e = (sym (ap (λ (v : Verdict (List ℕ)). answered u v (length out)) e), sym (ap (λ (v : Verdict (List ℕ)). front v out) e))
+module _ (u : ℕ) (v : Verdict (List ℕ)) (out : List ℕ) where
+  pub told-declined : (k : ℕ) → v ≡ declined k → (declined k ≡ answered u v (length out)) × (out ≡ front v out)
+  told-declined k e = (rw e, rw e)
 
-  pub filled : (l : List ℕ) (r : Verdict ℕ) (t : List ℕ) → plan ≡ accepted l → r ≡ answered u (accepted l) (length out) → t ≡ front (accepted l) out
-      → (r ≡ answered u plan (length out)) × (t ≡ front plan out)
-  filled l r t e p q = (p ∙ sym (ap (λ (v : Verdict (List ℕ)). answered u v (length out)) e), q ∙ sym (ap (λ (v : Verdict (List ℕ)). front v out) e))
+  pub told-needs : (l : List ℕ) (n : ℕ) → v ≡ accepted l → n ≡ length l → length out < n → (needs (n ∷ []) ≡ answered u v (length out)) × (out ≡ front v out)
+  told-needs l n e m h = (rw (e, m) (answered-no u l (length out) (omega arith)), rw e (front-no l out (omega arith)))
+
+  pub told-filled : (l r : List ℕ) (n : ℕ) → v ≡ accepted l → n ≡ length l / u → length l ≤ length out → r ≡ sets out 0 l → (accepted n ≡ answered u v (length out)) × (r ≡ front v out)
+  told-filled l r n e m h p = (rw (e, m) (answered-yes u l (length out) h), rw (e, p) (front-yes l out h))
+
+  -- what a callee said and left of the list itself
+  pub told-same : (l : List ℕ) (r : Verdict ℕ) (t : List ℕ) → v ≡ accepted l → r ≡ answered u (accepted l) (length out) → t ≡ front (accepted l) out
+      → (r ≡ answered u v (length out)) × (t ≡ front v out)
+  told-same l r t e p q = (rw e p, rw e q)

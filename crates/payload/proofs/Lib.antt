@@ -5,6 +5,9 @@ pub mod WordLaws
 pub mod ReadLaws
 pub mod EquiLaws
 pub mod CbmpLaws
+pub mod CubeLaws
+pub mod ShareProofs
 pub mod CountLaws
 pub mod ViewLaws
 pub mod CropProofs
+pub mod CubeMarked

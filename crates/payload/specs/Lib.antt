@@ -6,7 +6,11 @@ pub mod Payload
 pub mod Words
 pub mod Equi
 pub mod Cbmp
+pub mod Cube
+pub mod CubeParts
 pub mod Count
 pub mod View
 pub mod Laws
+pub mod ShareLaws
 pub mod CropMarked
+pub mod CubeMarked

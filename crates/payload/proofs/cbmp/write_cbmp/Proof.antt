@@ -4,7 +4,7 @@ use Prim.Native.Nat.{ℕ, _≤_, _<_}
 use borrow.Author.Tests.{le-leb, lt-leb}
 use Rattle.bits.specs.Verdict.{accepted, declined}
 use Rattle.payload.specs.Cbmp.{cbmpBytes, cbmpWritten}
-use Rattle.payload.proofs.FillLaws.{refused, filled}
+use Rattle.payload.proofs.FillLaws.{told-declined, told-same}
 use borrow.Author.Needs.{needs}
 use Rattle.payload.proofs.cbmp.write_cbmp.Statement.{statement}
 use Rattle.payload.proofs.cbmp.write_cbmp.Tie as tie
@@ -18,7 +18,7 @@ unfolding cbmpWritten
 small p h = simp (le-leb p 4096 h)
 
 returns : tie.Need-returns
-returns c = let a = c .before .before .args in refused 1 _ (a .out .now) 5 (large (a .padding) (c .if1 .taken))
+returns c = let a = c .before .before .args in told-declined 1 _ (a .out .now) 5 (large (a .padding) (c .if1 .taken))
 
 slice-aggregate-fill-words : tie.Need-slice-aggregate-fill-words
 slice-aggregate-fill-words c = search needs
@@ -32,7 +32,7 @@ same-length c = search needs
 returns-2 : tie.Need-returns-2
 returns-2 c =
     let a = c .before .before .before .before .before .before .before .args in
-    filled 1 _ (a .out .now) (cbmpBytes (a .padding)) _ _ (small (a .padding) (c .before .before .before .before .before .if1 .left)) (c .before .before .fill-words .ensures .0) (c .before .before .fill-words .ensures .1)
+    told-same 1 _ (a .out .now) (cbmpBytes (a .padding)) _ _ (small (a .padding) (c .before .before .before .before .before .if1 .left)) (c .before .before .fill-words .ensures .0) (c .before .before .fill-words .ensures .1)
 
 pub write-cbmp-spec : {M : Type 1} → statement M
 write-cbmp-spec =

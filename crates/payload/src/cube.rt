@@ -1,0 +1,287 @@
+// The cube map: the triangles and the vertices of six faces, each a grid of cells.
+use super::answers::Filled;
+use bits::float_bits;
+use bits::nearest_f32;
+ghost use mathlib.Core.Path.{_≡_};
+ghost use mathlib.Core.List.{[], _∷_};
+ghost use Prim.Native.Nat.{_+_, _<_, _≤_};
+ghost use lib.ListN.{length};
+ghost use lib.Seq.{sets};
+ghost use lib.Ieee.Scale.{finite};
+ghost use Rattle.payload.specs.Fill.{answered, front, filledSays};
+ghost use Rattle.payload.specs.Float.{ratio};
+ghost use Rattle.payload.specs.Cube.{cellsUsable, shareUsable, cubeRow, cubeFace, cubeTriangles, cubeNumbers, pointFace, cubePoints, cubeFloats};
+ghost use Rattle.payload.specs.CubeParts.{cellOf, faceOf, along, between, pointOf, rowOf};
+
+fn cells_usable(cells: u32) -> bool
+    ensures { λ r. ⌜ r ≡ cellsUsable cells ⌝ }
+{
+    (1 <= cells) & (cells <= 103)
+}
+
+// ---- triangles
+
+fn put_triangle(a: u16, b: u16, c: u16, w: usize, out: &mut [u16])
+    requires { ⌜ w + 3 ≤ length (now out) ⌝ }
+    ensures { λ _. ⌜ now (out .exit) ≡ sets (now (out .entry)) w (a ∷ b ∷ c ∷ []) ⌝ }
+{
+    out[w] = a;
+    out[w + 1] = b;
+    out[w + 2] = c;
+}
+
+// The two triangles of a cell with a and b in one row of the grid and c and d in the next, stride vertices on.
+fn put_cell(a: u16, stride: u16, w: usize, out: &mut [u16])
+    requires { ⌜ (a + stride + 1 < 65536) × (w + 6 ≤ length (now out)) ⌝ }
+    ensures { λ _. ⌜ now (out .exit) ≡ sets (now (out .entry)) w (cellOf a stride) ⌝ }
+{
+    let b = a + 1;
+    let c = a + stride;
+    let d = c + 1;
+    put_triangle(a, d, c, w, out);
+    put_triangle(a, b, d, w + 3, out);
+}
+
+// A row of cells, from out[at] on. The answer is the place after it, here and below.
+fn index_row(cells: u32, face: u32, y: u32, at: usize, out: &mut [u16]) -> usize
+    requires { ⌜ (cells ≤ 103) × (face < 6) × (y < cells) × (at + length (cubeRow cells face y) ≤ length (now out)) ⌝ }
+    ensures { λ r. ⌜ r ≡ at + length (cubeRow cells face y) ⌝ }
+    ensures { λ _. ⌜ now (out .exit) ≡ sets (now (out .entry)) at (cubeRow cells face y) ⌝ }
+{
+    let stride = cells + 1;
+    let first = face * (stride * stride) + y * stride;
+    let mut w = at;
+    let mut x: u32 = 0;
+    while x < cells {
+        put_cell((first + x) as u16, stride as u16, w, out);
+        w += 6;
+        x += 1;
+    }
+    w
+}
+
+fn index_face(cells: u32, face: u32, at: usize, out: &mut [u16]) -> usize
+    requires { ⌜ (cells ≤ 103) × (face < 6) × (at + length (cubeFace cells face) ≤ length (now out)) ⌝ }
+    ensures { λ r. ⌜ r ≡ at + length (cubeFace cells face) ⌝ }
+    ensures { λ _. ⌜ now (out .exit) ≡ sets (now (out .entry)) at (cubeFace cells face) ⌝ }
+{
+    let mut w = at;
+    let mut y: u32 = 0;
+    while y < cells {
+        w = index_row(cells, face, y, w, out);
+        y += 1;
+    }
+    w
+}
+
+fn index_cube(cells: u32, out: &mut [u16])
+    requires { ⌜ (cells ≤ 103) × (length (cubeTriangles cells) ≤ length (now out)) ⌝ }
+    ensures { λ _. ⌜ now (out .exit) ≡ sets (now (out .entry)) 0 (cubeTriangles cells) ⌝ }
+{
+    let mut w: usize = 0;
+    let mut face: u32 = 0;
+    while face < 6 {
+        w = index_face(cells, face, w, out);
+        face += 1;
+    }
+}
+
+// Puts the triangles into out: 9, 12, or how many numbers.
+pub fn cubemap_indices(cells: u32, out: &mut [u16]) -> Filled
+    ensures { λ r. ⌜ filledSays r ≡ answered 1 (cubeNumbers cells) (length (now (out .entry))) ⌝ }
+    ensures { λ _. ⌜ now (out .exit) ≡ front (cubeNumbers cells) (now (out .entry)) ⌝ }
+{
+    if !cells_usable(cells) {
+        return Filled::Declined(9);
+    }
+    let n = cells as usize;
+    let count = 36 * (n * n);
+    if out.len() < count {
+        return Filled::Needs(count);
+    }
+    index_cube(cells, out);
+    Filled::Count(count)
+}
+
+// ---- vertices
+
+// For each face the directions of its centre, of image-right and of image-up, three floats each.
+const CUBE_FACES: [[f32; 9]; 6] = [
+    [1.0, 0.0, 0.0, 0.0, 0.0, 1.0, 0.0, 1.0, 0.0],
+    [-1.0, 0.0, 0.0, 0.0, 0.0, -1.0, 0.0, 1.0, 0.0],
+    [0.0, 1.0, 0.0, -1.0, 0.0, 0.0, 0.0, 0.0, -1.0],
+    [0.0, -1.0, 0.0, -1.0, 0.0, 0.0, 0.0, 0.0, 1.0],
+    [0.0, 0.0, -1.0, 1.0, 0.0, 0.0, 0.0, 1.0, 0.0],
+    [0.0, 0.0, 1.0, -1.0, 0.0, 0.0, 0.0, 1.0, 0.0],
+];
+
+// What a face has along one axis of space.
+struct Axis {
+    centre: f32,
+    right: f32,
+    up: f32,
+}
+
+// A face, and where its picture lies in the frame.
+struct Face {
+    x: Axis,
+    y: Axis,
+    z: Axis,
+    u0: f32,
+    u1: f32,
+    v0: f32,
+    v1: f32,
+}
+
+// The frame has 3 columns and 2 rows of pictures, of each of which share is cut off on every side. v runs upward.
+fn face_of(face: u32, share: f32) -> Face
+    requires { ⌜ face < 6 ⌝ }
+    ensures { λ r. ⌜ r ≡ faceOf face share ⌝ }
+{
+    let f = CUBE_FACES[face as usize];
+    let column = nearest_f32(face % 3);
+    let row = nearest_f32(face / 3);
+    Face {
+        x: Axis {
+            centre: f[0],
+            right: f[3],
+            up: f[6],
+        },
+        y: Axis {
+            centre: f[1],
+            right: f[4],
+            up: f[7],
+        },
+        z: Axis {
+            centre: f[2],
+            right: f[5],
+            up: f[8],
+        },
+        u0: (column + share) / 3.0,
+        u1: (column + 1.0 - share) / 3.0,
+        v0: (2.0 - row - 1.0 + share) / 2.0,
+        v1: (2.0 - row - share) / 2.0,
+    }
+}
+
+// a and b run from -1 to 1, right and up from the face's middle.
+fn along(radius: f32, axis: Axis, a: f32, b: f32) -> u32
+    ensures { λ r. ⌜ r ≡ along radius axis a b ⌝ }
+{
+    float_bits(radius * (axis.centre + axis.right * a + axis.up * b))
+}
+
+fn between(low: f32, high: f32, s: f32) -> u32
+    ensures { λ r. ⌜ r ≡ between low high s ⌝ }
+{
+    float_bits(low + (high - low) * s)
+}
+
+// The point at the shares s and t of a face's width and height.
+fn put_point(radius: f32, face: Face, s: f32, t: f32, w: usize, out: &mut [u32])
+    requires { ⌜ w + 5 ≤ length (now out) ⌝ }
+    ensures { λ _. ⌜ now (out .exit) ≡ sets (now (out .entry)) w (pointOf radius face s t) ⌝ }
+{
+    let a = 2.0 * s - 1.0;
+    let b = 2.0 * t - 1.0;
+    out[w] = along(radius, face.x, a, b);
+    out[w + 1] = along(radius, face.y, a, b);
+    out[w + 2] = along(radius, face.z, a, b);
+    out[w + 3] = between(face.u0, face.u1, s);
+    out[w + 4] = between(face.v0, face.v1, t);
+}
+
+// As padding_share, of numbers that a cast takes exactly.
+fn small_ratio(x: u32, n: u32) -> f32
+    requires { ⌜ (x ≤ 103) × (n ≤ 103) ⌝ }
+    ensures { λ r. ⌜ r ≡ ratio x n ⌝ }
+{
+    x as f32 / n as f32
+}
+
+// A row of points, from out[at] on.
+fn point_row(cells: u32, radius: f32, face: Face, y: u32, at: usize, out: &mut [u32]) -> usize
+    requires { ⌜ (cells ≤ 103) × (y ≤ cells) × (at + length (rowOf cells radius face y) ≤ length (now out)) ⌝ }
+    ensures { λ r. ⌜ r ≡ at + length (rowOf cells radius face y) ⌝ }
+    ensures { λ _. ⌜ now (out .exit) ≡ sets (now (out .entry)) at (rowOf cells radius face y) ⌝ }
+{
+    let n = cells + 1;
+    let t = small_ratio(y, cells);
+    let mut w = at;
+    let mut x: u32 = 0;
+    while x < n {
+        put_point(radius, face, small_ratio(x, cells), t, w, out);
+        w += 5;
+        x += 1;
+    }
+    w
+}
+
+fn point_face(cells: u32, radius: f32, share: f32, face: u32, at: usize, out: &mut [u32]) -> usize
+    requires { ⌜ (cells ≤ 103) × (face < 6) × (at + length (pointFace cells radius share face) ≤ length (now out)) ⌝ }
+    ensures { λ r. ⌜ r ≡ at + length (pointFace cells radius share face) ⌝ }
+    ensures { λ _. ⌜ now (out .exit) ≡ sets (now (out .entry)) at (pointFace cells radius share face) ⌝ }
+{
+    let f = face_of(face, share);
+    let n = cells + 1;
+    let mut w = at;
+    let mut y: u32 = 0;
+    while y < n {
+        w = point_row(cells, radius, f, y, w, out);
+        y += 1;
+    }
+    w
+}
+
+fn point_cube(cells: u32, radius: f32, share: f32, out: &mut [u32])
+    requires { ⌜ (cells ≤ 103) × (length (cubePoints cells radius share) ≤ length (now out)) ⌝ }
+    ensures { λ _. ⌜ now (out .exit) ≡ sets (now (out .entry)) 0 (cubePoints cells radius share) ⌝ }
+{
+    let mut w: usize = 0;
+    let mut face: u32 = 0;
+    while face < 6 {
+        w = point_face(cells, radius, share, face, w, out);
+        face += 1;
+    }
+}
+
+fn is_finite(x: f32) -> bool
+    ensures { λ r. ⌜ r ≡ finite x ⌝ }
+{
+    let infinite: f32 = 1.0 / 0.0;
+    (-infinite < x) & (x < infinite)
+}
+
+// A NaN and the infinities fail one of the comparisons.
+fn share_usable(x: f32) -> bool
+    ensures { λ r. ⌜ r ≡ shareUsable x ⌝ }
+{
+    (0.0 <= x) & (x < 0.5)
+}
+
+// Puts the vertices into out, x y z u v each, as the bits of floats: 9, 11, 12, or how many vertices.
+pub fn cubemap_mesh(cells: u32, radius: f32, padding: f32, out: &mut [u32]) -> Filled
+    ensures { λ r. ⌜ filledSays r ≡ answered 5 (cubeFloats cells radius padding) (length (now (out .entry))) ⌝ }
+    ensures { λ _. ⌜ now (out .exit) ≡ front (cubeFloats cells radius padding) (now (out .entry)) ⌝ }
+{
+    if !cells_usable(cells) {
+        return Filled::Declined(9);
+    }
+    if !(is_finite(radius) & share_usable(padding)) {
+        return Filled::Declined(11);
+    }
+    let n = cells as usize + 1;
+    let count = 6 * (n * n);
+    if out.len() < 5 * count {
+        return Filled::Needs(5 * count);
+    }
+    point_cube(cells, radius, padding, out);
+    Filled::Count(count)
+}
+
+// The share of a face's width that its padding takes on each side.
+pub fn padding_share(padding: u32, face_width: u32) -> f32
+    ensures { λ r. ⌜ r ≡ ratio padding «face_width» ⌝ }
+{
+    nearest_f32(padding) / nearest_f32(face_width)
+}
