@@ -28,9 +28,6 @@ unfolding each
 each-same f g e zero = refl
 each-same f g e (suc n) = ap₂ _++_ (each-same f g e n) (e n)
 
-pub each-grows : (f : ℕ → List ℕ) (n : ℕ) → length (each f (n + 1)) ≡ length (each f n) + length (f n)
-each-grows f n = ap length (each-more f n) ∙ length-append (each f n) (f n)
-
 -- there is room for piece j where there is room for n pieces
 pub each-room : (f : ℕ → List ℕ) (j n : ℕ) → j < n → length (each f j) + length (f j) ≤ length (each f n)
 unfolding each
@@ -64,35 +61,58 @@ sets-each f n d l o w e h =
     ∙ sym (sets-append (each f n) (f n) d o)
     ∙ ap (λ (x : List ℕ). sets d o x) (sym (each-more f n))
 
--- ---- a filling loop
+-- ---- a buffer that is filled piece by piece
 
--- j of n pieces are in the list l, which was d, from the place o on, and w is the place after them
+-- d with the list p from place o on: l is the buffer, and w the place after p
+abbrev pub Holds : List ℕ → ℕ → List ℕ → List ℕ → ℕ → Type 0
+Holds d o p l w = (w ≡ o + length p) × (l ≡ sets d o p)
+
+pub holds-none : (f : ℕ → List ℕ) (d : List ℕ) (o : ℕ) → Holds d o (each f 0) d o
+unfolding each
+holds-none f d o = (sym (add-zero o), refl)
+
+-- the same list in other words has the same room
+pub room-by : (p q : List ℕ) (o n : ℕ) → o + length q ≤ n → p ≡ q → o + length p ≤ n
+room-by p q o n h e = rw e h
+
+module _ (d : List ℕ) (o : ℕ) (p l : List ℕ) (w : ℕ) (h : Holds d o p l w) where
+  pub holds-length : length l ≡ length d
+  holds-length = ap length (h .1) ∙ length-sets d o p
+
+  -- the same list in other words
+  pub holds-by : (q : List ℕ) → p ≡ q → Holds d o q l w
+  holds-by q e = rw e at h
+
+module _ (f : ℕ → List ℕ) (n : ℕ) (d l : List ℕ) (o w : ℕ) (h : Holds d o (each f n) l w) where
+  -- one piece more
+  pub holds-next : (m : List ℕ) (r : ℕ) → Holds l w (f n) m r → Holds d o (each f (n + 1)) m r
+  holds-next m r k = (k .0 ∙ rw (each-more, length-append) (omega (arith, h .0)), k .1 ∙ sets-each f n d l o w (h .1) (h .0))
+
+  -- it has room where there is room for k pieces
+  pub holds-room : (k : ℕ) → n < k → o + length (each f k) ≤ length d → (w + length (f n) ≤ length d) × (length l ≡ length d)
+  holds-room k b r = (omega (arith, h .0, each-room f n k b), holds-length d o (each f n) l w h)
+
+-- the invariant of a loop over n pieces, of which j are there
 pub record Filling (f : ℕ → List ℕ) (n : ℕ) (d : List ℕ) (o : ℕ) (l : List ℕ) (w j : ℕ) : Type 0 where
   pub few : j ≤ n
-  pub place : w ≡ o + length (each f j)
-  pub list : l ≡ sets d o (each f j)
+  pub held : Holds d o (each f j) l w
 
 pub filling-none : {f : ℕ → List ℕ} {n : ℕ} {d : List ℕ} {o : ℕ} → Filling f n d o d o 0
-unfolding each
-filling-none {f} {n} {d} {o} = record { few = omega arith; place = sym (add-zero o); list = refl }
+filling-none {f} {n} {d} {o} = record { few = omega arith; held = holds-none f d o }
 
 module _ {f : ℕ → List ℕ} {n : ℕ} {d : List ℕ} {o : ℕ} {l : List ℕ} {w j : ℕ} (i : Filling f n d o l w j) where
   pub filling-length : length l ≡ length d
-  filling-length = ap length (i .list) ∙ length-sets d o (each f j)
+  filling-length = holds-length d o (each f j) l w (i .held)
 
   -- there is room for the next piece where there is room for all
   pub filling-room : j < n → o + length (each f n) ≤ length d → w + length (f j) ≤ length l
-  filling-room h r = omega (arith, each-room f j n h, filling-length)
+  filling-room h r = let k = holds-room f j d l o w (i .held) n h r in omega (arith, k .0, k .1)
 
   pub filling-more : (r : List ℕ) (v : ℕ) → j < n → v ≡ w + length (f j) → r ≡ sets l w (f j) → Filling f n d o r v (j + 1)
-  filling-more r v h p q = record {
-    few = omega arith;
-    place = omega (arith, each-grows f j);
-    list = q ∙ sets-each f j d l o w (i .list) (i .place);
-  }
+  filling-more r v h p q = record { few = omega arith; held = holds-next f j d l o w (i .held) r v (p, q) }
 
-  pub filling-all : n ≤ j → (w ≡ o + length (each f n)) × (l ≡ sets d o (each f n))
-  filling-all h = let e : n ≡ j = omega arith in rw e (i .place, i .list)
+  pub filling-all : n ≤ j → Holds d o (each f n) l w
+  filling-all h = let e : n ≡ j = omega arith in rw e (i .held)
 
 -- ---- a filling call
 

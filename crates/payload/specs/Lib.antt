@@ -6,6 +6,7 @@ pub mod Payload
 pub mod Words
 pub mod Equi
 pub mod Cbmp
+pub mod Sphere
 pub mod Cube
 pub mod CubeParts
 pub mod Count
@@ -13,4 +14,5 @@ pub mod View
 pub mod Laws
 pub mod ShareLaws
 pub mod CropMarked
+pub mod SphereMarked
 pub mod CubeMarked

@@ -7,6 +7,7 @@ mod crop;
 mod cube;
 mod equi;
 mod full_box;
+mod sphere;
 mod view;
 mod words;
 
@@ -27,6 +28,9 @@ pub use equi::EquiAnswer;
 pub use equi::EquiFields;
 pub use equi::parse_equi;
 pub use equi::write_equi;
+pub use sphere::sphere_indices;
+pub use sphere::sphere_indices_bounded;
+pub use sphere::sphere_uvs;
 pub use view::AnaglyphPair;
 pub use view::DEFAULT_FOV_DEG;
 pub use view::Eye;

@@ -4,7 +4,7 @@ use std::fmt;
 
 use crate::random::Random;
 
-const MOST_STORED: usize = 3;
+const MOST_STORED: usize = 8;
 const ROOM: usize = MOST_STORED + 3;
 
 /// The answer that is due: its number, and the words that belong to it.
@@ -35,6 +35,15 @@ impl Answer {
 
     pub fn refused(refusal: i64) -> Answer {
         Answer::new(-refusal, &[])
+    }
+
+    /// The bits of floats.
+    pub fn floats(floats: &[f32]) -> Answer {
+        let mut words = [0; MOST_STORED];
+        for (word, x) in words.iter_mut().zip(floats) {
+            *word = u64::from(x.to_bits());
+        }
+        Answer::words(&words[..floats.len()])
     }
 
     pub fn words_or<const N: usize>(words: Option<[u64; N]>, refusal: i64) -> Answer {
@@ -95,8 +104,9 @@ pub fn ask(
     call: impl FnOnce(&mut [u64]) -> i64,
 ) -> (Reply, Reply) {
     let lent = match random.below(8) {
-        0 => random.below(MOST_STORED),
+        0 => random.below(due.count.max(1)),
         1 => random.pick(&[MOST_STORED + 1, MOST_STORED + 2]),
+        2..=4 => due.count,
         _ => MOST_STORED,
     };
     let mut words = pattern();

@@ -1,5 +1,5 @@
 use crate::options::Options;
-use crate::sweep::{near, sweep};
+use crate::sweep::float_sweep;
 use crate::tally::Tally;
 
 const NAME: &str = "float_bits";
@@ -9,12 +9,7 @@ pub fn run(options: &Options) -> Vec<Tally> {
     let what =
         "against f32::to_bits; a NaN gives 0x7fc00000, its sign and payload are not compared";
     let mut tally = Tally::new(options, NAME, what);
-    sweep(options, NAME, |bits| check(&mut tally, bits));
-    if !options.long {
-        for exponent in 0..512 {
-            near(exponent << 23).for_each(|bits| check(&mut tally, bits));
-        }
-    }
+    float_sweep(options, NAME, |bits| check(&mut tally, bits));
     vec![tally]
 }
 

@@ -5,22 +5,31 @@
 mod answer;
 mod bit_width;
 mod buffers;
+mod cbmp;
+mod counts;
+mod crops;
+mod cube;
 mod cursors;
+mod equi;
 mod fields;
+mod fill;
 mod float_bits;
 mod headers;
 mod nearest;
 mod options;
+mod payloads;
 mod put;
 mod put_field;
 mod put_word;
 mod random;
 mod run_on;
 mod scale;
+mod sphere;
 mod stepped;
 mod sum_fields;
 mod sweep;
 mod tally;
+mod view;
 mod zigzag;
 
 use std::process::ExitCode;
@@ -30,7 +39,7 @@ use tally::Tally;
 
 type Subject = (&'static str, fn(&Options) -> Vec<Tally>);
 
-const SUBJECTS: [Subject; 13] = [
+const SUBJECTS: [Subject; 20] = [
     ("zigzag", zigzag::run),
     ("bit_width", bit_width::run),
     ("nearest", nearest::run),
@@ -44,6 +53,13 @@ const SUBJECTS: [Subject; 13] = [
     ("headers", headers::run),
     ("put_word", put_word::run),
     ("put_field", put_field::run),
+    ("crops", crops::run),
+    ("equi", equi::run),
+    ("cbmp", cbmp::run),
+    ("sphere", sphere::run),
+    ("cube", cube::run),
+    ("counts", counts::run),
+    ("view", view::run),
 ];
 
 fn main() -> ExitCode {

@@ -6,23 +6,23 @@ use crate::answer::{Answer, Reply};
 use crate::tally::Tally;
 
 /// The answer, the buffer after it, and what is read back where something was put.
-pub struct Due {
+pub struct Due<B> {
     answer: Answer,
     after: Vec<u8>,
-    back: Option<u32>,
+    back: Option<B>,
 }
 
-impl Due {
-    pub fn done(after: Vec<u8>, back: u32) -> Due {
+impl<B> Due<B> {
+    pub fn done(answer: Answer, after: Vec<u8>, back: B) -> Due<B> {
         Due {
-            answer: Answer::words(&[]),
+            answer,
             after,
             back: Some(back),
         }
     }
 
     /// An answer that leaves the buffer as it was.
-    pub fn unchanged(answer: Answer, before: &[u8]) -> Due {
+    pub fn unchanged(answer: Answer, before: &[u8]) -> Due<B> {
         Due {
             answer,
             after: before.to_vec(),
@@ -32,13 +32,13 @@ impl Due {
 }
 
 #[derive(PartialEq)]
-struct Outcome {
+struct Outcome<B> {
     reply: Reply,
     after: Vec<u8>,
-    back: Option<u32>,
+    back: Option<B>,
 }
 
-impl fmt::Display for Outcome {
+impl<B: Debug> fmt::Display for Outcome<B> {
     fn fmt(&self, f: &mut fmt::Formatter) -> fmt::Result {
         let Outcome { reply, after, back } = self;
         write!(f, "{reply}, buffer {after:02x?}, read back {back:x?}")
@@ -46,19 +46,19 @@ impl fmt::Display for Outcome {
 }
 
 /// Makes one call on a copy of `before` and counts it as an input.
-pub fn check<I: Debug>(
+pub fn check<B: Debug + PartialEq, I: Debug>(
     tally: &mut Tally,
-    due: Due,
+    due: Due<B>,
     before: &[u8],
     call: impl FnOnce(&mut [u8], &mut [u64]) -> i64,
-    read_back: impl FnOnce(&[u8]) -> Option<u32>,
+    read_back: impl FnOnce(&[u8]) -> Option<B>,
     input: impl FnOnce() -> I,
 ) {
     let mut out = before.to_vec();
     let (ours, reply) = tally.ask(&due.answer, |words| call(&mut out, words));
     let ours = Outcome {
         reply: ours,
-        back: due.back.and_then(|_| read_back(&out)),
+        back: due.back.as_ref().and_then(|_| read_back(&out)),
         after: out,
     };
     let due = Outcome {

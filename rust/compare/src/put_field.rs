@@ -47,7 +47,7 @@ fn low(value: u32, width: u32) -> u32 {
     (u64::from(value) & ((1 << width) - 1)) as u32
 }
 
-fn due(before: &[u8], bit: usize, width: u32, value: u32) -> Due {
+fn due(before: &[u8], bit: usize, width: u32, value: u32) -> Due<u32> {
     if width > 32 {
         return Due::unchanged(Answer::not_made(), before);
     }
@@ -64,7 +64,7 @@ fn due(before: &[u8], bit: usize, width: u32, value: u32) -> Due {
     for place in end..8 * needed {
         set(&mut after, place, false);
     }
-    Due::done(after, low(value, width))
+    Due::done(Answer::words(&[]), after, low(value, width))
 }
 
 fn set(bytes: &mut [u8], bit: usize, on: bool) {

@@ -30,7 +30,7 @@ pub fn run(options: &Options) -> Vec<Tally> {
     vec![tally]
 }
 
-fn due(before: &[u8], at: usize, x: u32) -> Due {
+fn due(before: &[u8], at: usize, x: u32) -> Due<u32> {
     let Some(end) = at.checked_add(4) else {
         return Due::unchanged(Answer::needs(usize::MAX), before);
     };
@@ -39,7 +39,7 @@ fn due(before: &[u8], at: usize, x: u32) -> Due {
     }
     let mut after = before.to_vec();
     after[at..end].copy_from_slice(&x.to_be_bytes());
-    Due::done(after, x)
+    Due::done(Answer::words(&[]), after, x)
 }
 
 fn read_back(data: &[u8], position: usize) -> Option<u32> {

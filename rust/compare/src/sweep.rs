@@ -6,22 +6,37 @@ use crate::options::Options;
 use crate::random::Random;
 use crate::tally::Tally;
 
-/// Every number below this is in the sample.
+/// So many of the lowest and of the highest numbers are in the sample.
 const DENSE: u32 = 1 << 20;
-/// And every number this close to a power of two or to the ends.
+/// And every number this close to a power of two.
 const NEAR: u32 = 1 << 12;
 /// And this many spread over all.
 const SPREAD: u32 = 1 << 23;
 
-pub fn sweep(options: &Options, name: &str, mut each: impl FnMut(u32)) {
+pub fn sweep(options: &Options, name: &str, each: impl FnMut(u32)) {
     if options.long {
-        return (0..=u32::MAX).for_each(each);
+        (0..=u32::MAX).for_each(each);
+    } else {
+        sample(options, name, each);
     }
+}
+
+/// The bit patterns of floats: in the sample also those close to every power of two.
+pub fn float_sweep(options: &Options, name: &str, mut each: impl FnMut(u32)) {
+    sweep(options, name, &mut each);
+    if !options.long {
+        for exponent in 0..512 {
+            near(exponent << 23).for_each(&mut each);
+        }
+    }
+}
+
+pub fn sample(options: &Options, name: &str, mut each: impl FnMut(u32)) {
     (0..DENSE).for_each(&mut each);
     for power in DENSE.trailing_zeros()..u32::BITS {
         near(1 << power).for_each(&mut each);
     }
-    near(u32::MAX).for_each(&mut each);
+    (u32::MAX - (DENSE - 1)..=u32::MAX).for_each(&mut each);
     let mut value = Random::new(options.seed, name).word();
     for _ in 0..SPREAD {
         // The share of the golden ratio: no two steps fall close together.

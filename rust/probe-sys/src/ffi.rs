@@ -89,4 +89,93 @@ extern "C" {
         words: *mut u64,
         words_len: usize,
     ) -> i64;
+    pub fn probe_is_usable(top: f32, bottom: f32, left: f32, right: f32) -> i64;
+    pub fn probe_parse_equi(
+        payload: *const u8,
+        payload_len: usize,
+        words: *mut u64,
+        words_len: usize,
+    ) -> i64;
+    pub fn probe_write_equi(
+        t: u32,
+        b: u32,
+        l: u32,
+        r: u32,
+        out: *mut u8,
+        out_len: usize,
+        words: *mut u64,
+        words_len: usize,
+    ) -> i64;
+    pub fn probe_parse_cbmp(
+        payload: *const u8,
+        payload_len: usize,
+        words: *mut u64,
+        words_len: usize,
+    ) -> i64;
+    pub fn probe_write_cbmp(
+        padding: u32,
+        out: *mut u8,
+        out_len: usize,
+        words: *mut u64,
+        words_len: usize,
+    ) -> i64;
+    pub fn probe_sphere_indices(
+        rings: u32,
+        sectors: u32,
+        out: *mut u16,
+        out_len: usize,
+        words: *mut u64,
+        words_len: usize,
+    ) -> i64;
+    pub fn probe_sphere_indices_bounded(
+        rings: u32,
+        sectors: u32,
+        top: f32,
+        bottom: f32,
+        left: f32,
+        right: f32,
+        out: *mut u16,
+        out_len: usize,
+        words: *mut u64,
+        words_len: usize,
+    ) -> i64;
+    pub fn probe_sphere_uvs(
+        rings: u32,
+        sectors: u32,
+        out: *mut u32,
+        out_len: usize,
+        words: *mut u64,
+        words_len: usize,
+    ) -> i64;
+    pub fn probe_cubemap_indices(
+        cells: u32,
+        out: *mut u16,
+        out_len: usize,
+        words: *mut u64,
+        words_len: usize,
+    ) -> i64;
+    pub fn probe_cubemap_mesh(
+        cells: u32,
+        radius: f32,
+        padding: f32,
+        out: *mut u32,
+        out_len: usize,
+        words: *mut u64,
+        words_len: usize,
+    ) -> i64;
+    pub fn probe_padding_share(padding: u32, face: u32) -> i64;
+    pub fn probe_vertex_count(rings: u32, sectors: u32, words: *mut u64, words_len: usize) -> i64;
+    pub fn probe_index_count(rings: u32, sectors: u32, words: *mut u64, words_len: usize) -> i64;
+    pub fn probe_cubemap_vertex_count(cells: u32, words: *mut u64, words_len: usize) -> i64;
+    pub fn probe_cubemap_index_count(cells: u32, words: *mut u64, words_len: usize) -> i64;
+    pub fn probe_layout_from_raw(v: u32) -> i64;
+    pub fn probe_pair_from_raw(v: u32) -> i64;
+    pub fn probe_projection_from_raw(v: u32) -> i64;
+    pub fn probe_is_windowed(layout: u32) -> i64;
+    pub fn probe_is_panoramic(projection: u32) -> i64;
+    pub fn probe_projection_bounds(projection: u32, words: *mut u64, words_len: usize) -> i64;
+    pub fn probe_uv_window(layout: u32, eye: u32, words: *mut u64, words_len: usize) -> i64;
+    pub fn probe_anaglyph_mix(pair: u32, eye: u32, words: *mut u64, words_len: usize) -> i64;
+    pub fn probe_fov_for_zoom(zoom: f32) -> i64;
+    pub fn probe_zoom_for_fov(fov: f32) -> i64;
 }

@@ -4,9 +4,12 @@
 //! `words[0]` on, or nothing where `words` is shorter; or `-k` for refusal k, which stores nothing;
 //! or [`NEEDS`] with the needed length in `words[0]`; or [`NOT_MADE`] for a width above 32.
 //!
-//! SAFETY, for every call below: each pointer comes with the length of the slice it was taken from.
+//! SAFETY, for every call here and in `payload`: each pointer comes with the length of the slice it was taken from.
 
 mod ffi;
+mod payload;
+
+pub use payload::*;
 
 pub const NEEDS: i64 = -12;
 pub const NOT_MADE: i64 = i64::MIN;

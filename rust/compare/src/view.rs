@@ -1,0 +1,132 @@
+use reference::pano::{self, AnaglyphPair, Eye, Projection, StereoLayout};
+
+use crate::answer::Answer;
+use crate::options::Options;
+use crate::run_on::boundaries;
+use crate::sweep::{float_sweep, near};
+use crate::tally::Tally;
+
+const NAME: &str = "view";
+const DEFAULT_FOV_BITS: u32 = 0x41CE_147B;
+/// Eye 0 is the left one, any other number the right one.
+const EYES: [u32; 5] = [0, 1, 2, 256, u32::MAX];
+/// Where the field of view becomes its largest and its smallest.
+const ZOOM_ENDS: [f32; 2] = [0.2576, 2.576];
+
+pub fn run(options: &Options) -> Vec<Tally> {
+    let what =
+        "against pano's from_raw, is_windowed, is_panoramic, bounds, uv_window, anaglyph_mix";
+    let mut tally = Tally::new(options, NAME, what);
+    for raw in (0..=10).chain(boundaries()) {
+        layouts(&mut tally, raw);
+        pairs(&mut tally, raw);
+        projections(&mut tally, raw);
+    }
+    vec![tally, zooms(options), fovs(options), default_fov(options)]
+}
+
+fn layouts(tally: &mut Tally, raw: u32) {
+    let layout = StereoLayout::from_raw(raw);
+    tally.check(
+        probe_sys::layout_from_raw(raw),
+        i64::from(layout as u32),
+        || ("StereoLayout::from_raw", raw),
+    );
+    tally.check(
+        probe_sys::is_windowed(raw),
+        i64::from(layout.is_windowed()),
+        || ("is_windowed", raw),
+    );
+    for eye in EYES {
+        tally.call(
+            &Answer::floats(&pano::uv_window(layout, eye_of(eye))),
+            |words| probe_sys::uv_window(raw, eye, words),
+            || ("uv_window", raw, eye),
+        );
+    }
+}
+
+fn pairs(tally: &mut Tally, raw: u32) {
+    let pair = AnaglyphPair::from_raw(raw);
+    tally.check(
+        probe_sys::pair_from_raw(raw),
+        i64::from(pair as u32),
+        || ("AnaglyphPair::from_raw", raw),
+    );
+    for eye in EYES {
+        tally.call(
+            &Answer::floats(&pano::anaglyph_mix(pair, eye_of(eye))),
+            |words| probe_sys::anaglyph_mix(raw, eye, words),
+            || ("anaglyph_mix", raw, eye),
+        );
+    }
+}
+
+fn projections(tally: &mut Tally, raw: u32) {
+    let projection = Projection::from_raw(raw);
+    tally.check(
+        probe_sys::projection_from_raw(raw),
+        i64::from(projection as u32),
+        || ("Projection::from_raw", raw),
+    );
+    tally.check(
+        probe_sys::is_panoramic(raw),
+        i64::from(projection.is_panoramic()),
+        || ("is_panoramic", raw),
+    );
+    let due = match projection.bounds() {
+        Some(b) => Answer::floats(&[b.top, b.bottom, b.left, b.right]),
+        None => Answer::words(&[]),
+    };
+    tally.call(
+        &due,
+        |words| probe_sys::projection_bounds(raw, words),
+        || ("bounds", raw),
+    );
+}
+
+fn eye_of(eye: u32) -> Eye {
+    match eye {
+        0 => Eye::Left,
+        _ => Eye::Right,
+    }
+}
+
+fn zooms(options: &Options) -> Tally {
+    let what = "bits against pano::fov_for_zoom";
+    let mut tally = Tally::new(options, "fov_for_zoom", what);
+    let mut check = |bits: u32| {
+        let zoom = f32::from_bits(bits);
+        let due = pano::fov_for_zoom(zoom).to_bits();
+        tally.check(probe_sys::fov_for_zoom(zoom), i64::from(due), || bits);
+    };
+    float_sweep(options, "fov_for_zoom", &mut check);
+    for end in ZOOM_ENDS {
+        near(end.to_bits()).for_each(&mut check);
+    }
+    tally
+}
+
+fn fovs(options: &Options) -> Tally {
+    let what = "bits against pano::zoom_for_fov";
+    let mut tally = Tally::new(options, "zoom_for_fov", what);
+    float_sweep(options, "zoom_for_fov", |bits| {
+        let fov = f32::from_bits(bits);
+        let due = pano::zoom_for_fov(fov).to_bits();
+        tally.check(probe_sys::zoom_for_fov(fov), i64::from(due), || bits);
+    });
+    tally
+}
+
+/// The field of view at zoom 1, and at a zoom that is none.
+fn default_fov(options: &Options) -> Tally {
+    let what = "its bits are 0x41ce147b, in the Rust and here";
+    let mut tally = Tally::new(options, "DEFAULT_FOV_DEG", what);
+    let due = i64::from(DEFAULT_FOV_BITS);
+    let theirs = i64::from(pano::DEFAULT_FOV_DEG.to_bits());
+    tally.check(theirs, due, || "pano::DEFAULT_FOV_DEG");
+    for zoom in [1.0, 0.0, f32::NAN] {
+        tally.check(probe_sys::fov_for_zoom(zoom), due, || zoom.to_bits());
+    }
+    tally
+}
