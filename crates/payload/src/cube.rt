@@ -1,5 +1,6 @@
 // The cube map: the triangles and the vertices of six faces, each a grid of cells.
 use super::answers::Filled;
+use super::put_triangle;
 use bits::float_bits;
 use bits::nearest_f32;
 ghost use mathlib.Core.Path.{_≡_};
@@ -21,15 +22,6 @@ fn cells_usable(cells: u32) -> bool
 
 // ---- triangles
 
-fn put_triangle(a: u16, b: u16, c: u16, w: usize, out: &mut [u16])
-    requires { ⌜ w + 3 ≤ length (now out) ⌝ }
-    ensures { λ _. ⌜ now (out .exit) ≡ sets (now (out .entry)) w (a ∷ b ∷ c ∷ []) ⌝ }
-{
-    out[w] = a;
-    out[w + 1] = b;
-    out[w + 2] = c;
-}
-
 // The two triangles of a cell with a and b in one row of the grid and c and d in the next, stride vertices on.
 fn put_cell(a: u16, stride: u16, w: usize, out: &mut [u16])
     requires { ⌜ (a + stride + 1 < 65536) × (w + 6 ≤ length (now out)) ⌝ }
@@ -38,8 +30,8 @@ fn put_cell(a: u16, stride: u16, w: usize, out: &mut [u16])
     let b = a + 1;
     let c = a + stride;
     let d = c + 1;
-    put_triangle(a, d, c, w, out);
-    put_triangle(a, b, d, w + 3, out);
+    put_triangle(out, w, a, d, c);
+    put_triangle(out, w + 3, a, b, d);
 }
 
 // A row of cells, from out[at] on. The answer is the place after it, here and below.

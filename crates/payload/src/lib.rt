@@ -1,5 +1,11 @@
 // Payloads and their drawings: crops, readers, writers, index makers, cube maps, counts and the viewer's small calls.
 // What each call answers, and what it leaves in a lent buffer, is an equation with a definition of specs/.
+ghost use mathlib.Core.Path.{_≡_};
+ghost use mathlib.Core.List.{[], _∷_};
+ghost use Prim.Native.Nat.{_+_, _≤_};
+ghost use lib.ListN.{length};
+ghost use lib.Seq.{sets};
+
 mod answers;
 mod cbmp;
 mod counts;
@@ -43,3 +49,13 @@ pub use view::anaglyph_mix;
 pub use view::fov_for_zoom;
 pub use view::uv_window;
 pub use view::zoom_for_fov;
+
+// The three numbers of a triangle, for the index makers.
+fn put_triangle(out: &mut [u16], w: usize, a: u16, b: u16, c: u16)
+    requires { ⌜ w + 3 ≤ length (now out) ⌝ }
+    ensures { λ _. ⌜ now (out .exit) ≡ sets (now (out .entry)) w (a ∷ b ∷ c ∷ []) ⌝ }
+{
+    out[w] = a;
+    out[w + 1] = b;
+    out[w + 2] = c;
+}

@@ -1,6 +1,7 @@
 // The sphere's grid of rings and sectors: its triangles, as vertex numbers, and its texture coordinates, as bit patterns.
-use crate::answers::Filled;
-use crate::crop::Bounds;
+use super::answers::Filled;
+use super::crop::Bounds;
+use super::put_triangle;
 ghost use mathlib.Core.Path.{_≡_};
 ghost use mathlib.Core.List.{[], _∷_};
 ghost use mathlib.Core.Bool.{true};
@@ -19,15 +20,6 @@ fn grid_usable(rings: u32, sectors: u32) -> bool
 {
     let last = rings as u64 * (sectors as u64 + 1) + sectors as u64;
     (2 <= rings) & (3 <= sectors) & (last <= 65_535)
-}
-
-fn put_triangle(out: &mut [u16], w: usize, a: u16, b: u16, c: u16)
-    requires { ⌜ w + 3 ≤ length (now out) ⌝ }
-    ensures { λ _. ⌜ now (out .exit) ≡ sets (now (out .entry)) w (a ∷ b ∷ c ∷ []) ⌝ }
-{
-    out[w] = a;
-    out[w + 1] = b;
-    out[w + 2] = c;
 }
 
 // From place at on, n triangles: the numbers of each are one more than those of the one before. Answers the place after them.

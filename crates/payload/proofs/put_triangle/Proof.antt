@@ -3,8 +3,8 @@ use native.Mathlib.Omega.{arith}
 use native.Mathlib.Numerals.{add-one, add-two}
 use lib.ListN.{length-set}
 use borrow.Author.Needs.{needs}
-use Rattle.payload.proofs.sphere.put_triangle.Statement.{statement}
-use Rattle.payload.proofs.sphere.put_triangle.Tie as tie
+use Rattle.payload.proofs.put_triangle.Statement.{statement}
+use Rattle.payload.proofs.put_triangle.Tie as tie
 
 mul-out : tie.Need-mul-out
 mul-out c = search needs
