@@ -127,9 +127,15 @@ pub enum Eye {
     Right,
 }
 
+// u scale, u offset, v scale, v offset.
+pub type UvWindow = [f32; 4];
+
+// Red, green, blue.
+pub type ChannelMix = [f32; 3];
+
 // The part of the texture that an eye samples: u scale, u offset, v scale, v offset.
 // v runs from the bottom up, so the left eye's upper half is the one with the offset.
-pub fn uv_window(layout: StereoLayout, eye: Eye) -> [f32; 4]
+pub fn uv_window(layout: StereoLayout, eye: Eye) -> UvWindow
     ensures { λ r. ⌜ r ≡ windowOf layout eye ⌝ }
 {
     match layout {
@@ -148,7 +154,7 @@ pub fn uv_window(layout: StereoLayout, eye: Eye) -> [f32; 4]
 }
 
 // How much of red, green and blue carries an eye's picture.
-pub fn anaglyph_mix(pair: AnaglyphPair, eye: Eye) -> [f32; 3]
+pub fn anaglyph_mix(pair: AnaglyphPair, eye: Eye) -> ChannelMix
     ensures { λ r. ⌜ r ≡ mixOf pair eye ⌝ }
 {
     match pair {

@@ -106,7 +106,7 @@ pub fn ask(
     let lent = match random.below(8) {
         0 => random.below(due.count.max(1)),
         1 => random.pick(&[MOST_STORED + 1, MOST_STORED + 2]),
-        2..=4 => due.count,
+        2..=4 => due.count.max(1),
         _ => MOST_STORED,
     };
     let mut words = pattern();

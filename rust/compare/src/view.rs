@@ -10,6 +10,8 @@ const NAME: &str = "view";
 const DEFAULT_FOV_BITS: u32 = 0x41CE_147B;
 /// Eye 0 is the left one, any other number the right one.
 const EYES: [u32; 5] = [0, 1, 2, 256, u32::MAX];
+/// Rounds over the few inputs of the small calls, each with words of other lengths.
+const ROUNDS: u32 = 100;
 /// Where the field of view becomes its largest and its smallest.
 const ZOOM_ENDS: [f32; 2] = [0.2576, 2.576];
 
@@ -17,10 +19,12 @@ pub fn run(options: &Options) -> Vec<Tally> {
     let what =
         "against pano's from_raw, is_windowed, is_panoramic, bounds, uv_window, anaglyph_mix";
     let mut tally = Tally::new(options, NAME, what);
-    for raw in (0..=10).chain(boundaries()) {
-        layouts(&mut tally, raw);
-        pairs(&mut tally, raw);
-        projections(&mut tally, raw);
+    for _ in 0..ROUNDS {
+        for raw in (0..=10).chain(boundaries()) {
+            layouts(&mut tally, raw);
+            pairs(&mut tally, raw);
+            projections(&mut tally, raw);
+        }
     }
     vec![tally, zooms(options), fovs(options), default_fov(options)]
 }
