@@ -1,6 +1,7 @@
 -- What an exported function answers, from what it called. Assumes nothing.
-use mathlib.Core.Path.{_≡_, refl, _∙_, ap}
+use mathlib.Core.Path.{_≡_, refl, sym, _∙_, ap}
 use mathlib.Core.List.{List}
+use mathlib.Core.Bool.{Bool}
 use Prim.Native.Nat.{ℕ, _^_, _<_, _≤_}
 use native.Mathlib.Omega.{arith}
 use lib.IntN.{ℤ, pos, negsuc}
@@ -11,7 +12,7 @@ use mir.Facts.{toZ-ofZ, toZ-pos}
 use borrow.Author.Needs.{sfits-of}
 use borrow.Author.Tests.{le-leb, lt-leb}
 use Rattle.bits.specs.Verdict.{Verdict, accepted}
-use Rattle.probe.specs.Answer.{answers, leaves, told, one, narrow, asked}
+use Rattle.probe.specs.Answer.{answers, leaves, told, one, narrow, asked, truth}
 
 -- `tell` answered z for a reply that says v, and left l of the words d
 abbrev pub Tells : ℤ → List ℕ → List ℕ → Verdict (List ℕ) → Type 0
@@ -26,9 +27,18 @@ module _ {z : ℤ} {l : List ℕ} (d : List ℕ) where
   pub handed-told : {A : Type 0} (f : A → List ℕ) {v : Verdict (List ℕ)} {w u : Verdict A} → mag z < 2 ^ 63 → Tells z d l v → v ≡ told f w → w ≡ u → Tells (toZ w64 (ofZ w64 z)) d l (told f u)
   handed-told f small e v w = handed small e (v ∙ ap (told f) w)
 
+  -- it was made of one value, w, which its call's contract gives, u
+  pub handed-value : {A : Type 0} (f : A → List ℕ) {v : Verdict (List ℕ)} {w u : A} → mag z < 2 ^ 63 → Tells z d l v → v ≡ accepted (f w) → w ≡ u → Tells (toZ w64 (ofZ w64 z)) d l (accepted (f u))
+  handed-value f small e v w = handed small e (v ∙ ap (λ x. accepted (f x)) w)
+
   -- it was made of one number, n, which its call's contract gives, m
   pub handed-one : {n m : ℕ} → mag z < 2 ^ 63 → Tells z d l (accepted (one n)) → n ≡ m → Tells (toZ w64 (ofZ w64 z)) d l (accepted (one m))
-  handed-one small e n = handed small e (ap (λ (k : ℕ). accepted (one k)) n)
+  handed-one small e n = handed-value one small e refl n
+
+  -- it was made of what a call that fills a buffer answered; o is what that call left of the buffer
+  pub handed-filled : {v : Verdict (List ℕ)} {w u : Verdict ℕ} {o p : List ℕ} → mag z < 2 ^ 63 → Tells z d l v → v ≡ told one w → (w ≡ u) × (o ≡ p)
+      → (toZ w64 (ofZ w64 z) ≡ answers (told one u)) × ((l ≡ leaves d (told one u)) × (o ≡ p))
+  handed-filled small e v w = let h = handed-told one small e v (w .0) in (h .0, (h .1, w .1))
 
 -- a call that was made for its width, and one that was not
 pub narrow-made : {A : Type 0} (width : ℕ) (made not-made : A) → width ≤ 32 → made ≡ narrow width made not-made
@@ -41,3 +51,11 @@ too-wide f d width v h = rw (lt-leb _ _ h) (refl, refl)
 -- a u32 as an i64
 pub widened : {n m : ℕ} → n < 2 ^ 32 → n ≡ m → toZ w64 n ≡ pos m
 widened h e = toZ-pos w64 (omega arith) ∙ ap pos e
+
+-- a yes or no, x, which its call's contract gives, y
+pub flagged : {z : ℤ} {x y : Bool} → mag z < 2 ^ 63 → z ≡ truth x → x ≡ y → toZ w64 (ofZ w64 z) ≡ truth y
+flagged small e x = toZ-ofZ {w = w64} (sfits-of small) ∙ e ∙ ap truth x
+
+-- the number of a variant, v, that a call answered, which its contract gives as u
+pub numbered-by : {A : Type 0} (f : A → ℕ) {u v w : A} → w ≡ u → w ≡ v → pos (f v) ≡ pos (f u)
+numbered-by f p q = ap (λ x. pos (f x)) (sym q ∙ p)

@@ -1,7 +1,7 @@
 -- How a verdict crosses to C: an i64, and words in a lent slice.
 use Prim.Native.Nat.{ℕ, _^_}
 use mathlib.Core.List.{List, [], _∷_}
-use mathlib.Core.Bool.{cond}
+use mathlib.Core.Bool.{Bool, true, false, cond}
 use lib.ListN.{length}
 use lib.Seq.{sets}
 use lib.IntN.{ℤ, pos, negsuc, negℤ}
@@ -61,12 +61,18 @@ numbered (accepted k) = pos k
 numbered (needs ws) = negsuc 11
 numbered (declined k) = negℤ (pos k)
 
+-- an answer that is yes or no
+abbrev pub truth : Bool → ℤ
+truth true = pos 1
+truth false = pos 0
+
 -- what each reply of the code stands for
 abbrev pub says : Reply → Verdict (List ℕ)
 says R.Nothing = accepted []
 says (R.One a) = accepted (a ∷ [])
 says (R.Two a b) = accepted (a ∷ b ∷ [])
 says (R.Three a b c) = accepted (a ∷ b ∷ c ∷ [])
+says (R.Four a b c d) = accepted (a ∷ b ∷ c ∷ d ∷ [])
+says (R.Eight a b c d e f g h) = accepted (a ∷ b ∷ c ∷ d ∷ e ∷ f ∷ g ∷ h ∷ [])
 says (R.Needs n) = needs (n ∷ [])
-says R.Short = declined 3
-says R.BadSize = declined 6
+says (R.Declined k) = declined k

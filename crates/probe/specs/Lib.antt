@@ -1,3 +1,4 @@
 -- What the crate's contracts cite.
 pub mod Answer
+pub mod Shown
 pub mod Total

@@ -59,7 +59,7 @@ fn sum_fields(s: &[u8], width: u32, count: u64) -> Reply
                 left -= 1;
             }
             FieldRead::Short => {
-                return Reply::Short;
+                return Reply::Declined(3);
             }
         }
     }

@@ -1,27 +1,45 @@
-// What a call of `bits` answered, in the form in which it is handed to C.
+// What a call answered, in the form in which it is handed to C.
 use bits::BoxHeader;
 use bits::ByteRead;
 use bits::FieldRead;
 use bits::Put;
 use bits::Seek;
 use bits::WordRead;
+use payload::Filled;
 ghost use mathlib.Core.Path.{_≡_};
 ghost use Rattle.bits.specs.Read.{byteSays, wordSays, fieldSays, seekSays};
 ghost use Rattle.bits.specs.Header.{headerSays};
 ghost use Rattle.bits.specs.Put.{putSays};
-ghost use Rattle.probe.specs.Answer.{answers, leaves, told, none, one, two, item, says};
+ghost use Rattle.bits.specs.Float.{bitsOf};
+ghost use Rattle.payload.specs.Fill.{filledSays};
+ghost use Rattle.probe.specs.Answer.{answers, leaves, stored, told, none, one, two, item, says, truth};
 
 pub enum Reply {
-    // Accepted, with up to three words.
+    // Accepted, with up to eight words.
     Nothing,
     One(u64),
     Two(u64, u64),
     Three(u64, u64, u64),
+    Four(u64, u64, u64, u64),
+    Eight(u64, u64, u64, u64, u64, u64, u64, u64),
     // A buffer needs this length.
     Needs(u64),
-    // Refusals 3 and 6.
-    Short,
-    BadSize,
+    // The number of a refusal.
+    Declined(u8),
+}
+
+// Stores words from place 0 on, where they fit.
+fn store(words: &mut [u64], given: &[u64])
+    ensures { λ _. ⌜ now (words .exit) ≡ stored (now (words .entry)) (now (given .entry)) ⌝ }
+{
+    if words.len() < given.len() {
+        return;
+    }
+    let mut i = 0;
+    while i < given.len() {
+        words[i] = given[i];
+        i += 1;
+    }
 }
 
 // Answers a reply, and stores its words where they fit.
@@ -32,44 +50,53 @@ pub fn tell(words: &mut [u64], reply: Reply) -> i64
     match reply {
         Reply::Nothing => 0,
         Reply::One(a) => {
-            if 1 <= words.len() {
-                words[0] = a;
-            }
+            store(words, &[a]);
             1
         }
         Reply::Two(a, b) => {
-            if 2 <= words.len() {
-                words[0] = a;
-                words[1] = b;
-            }
+            store(words, &[a, b]);
             2
         }
         Reply::Three(a, b, c) => {
-            if 3 <= words.len() {
-                words[0] = a;
-                words[1] = b;
-                words[2] = c;
-            }
+            store(words, &[a, b, c]);
             3
         }
+        Reply::Four(a, b, c, d) => {
+            store(words, &[a, b, c, d]);
+            4
+        }
+        Reply::Eight(a, b, c, d, e, f, g, h) => {
+            store(words, &[a, b, c, d, e, f, g, h]);
+            8
+        }
         Reply::Needs(n) => {
-            if 1 <= words.len() {
-                words[0] = n;
-            }
+            store(words, &[n]);
             -12
         }
-        Reply::Short => -3,
-        Reply::BadSize => -6,
+        Reply::Declined(k) => -(k as i64),
     }
 }
 
-// An answer of `bits` as a reply, for each kind of answer.
+pub fn flag(x: bool) -> i64
+    ensures { λ r. ⌜ r ≡ truth x ⌝ }
+{
+    if x { 1 } else { 0 }
+}
+
+// A float as a word.
+pub fn word(x: f32) -> u64
+    ensures { λ r. ⌜ r ≡ bitsOf x ⌝ }
+{
+    bits::float_bits(x) as u64
+}
+
+// An answer as a reply, for each kind of answer.
 pub fn of_seek(x: Seek) -> Reply
     ensures { λ r. ⌜ says r ≡ told one (seekSays x) ⌝ }
 {
     match x {
         Seek::To(c) => Reply::One(c.at as u64),
-        Seek::Short => Reply::Short,
+        Seek::Short => Reply::Declined(3),
     }
 }
 
@@ -78,7 +105,7 @@ pub fn of_byte(x: ByteRead) -> Reply
 {
     match x {
         ByteRead::Value(v, c) => Reply::Two(v as u64, c.at as u64),
-        ByteRead::Short => Reply::Short,
+        ByteRead::Short => Reply::Declined(3),
     }
 }
 
@@ -87,7 +114,7 @@ pub fn of_word(x: WordRead) -> Reply
 {
     match x {
         WordRead::Value(v, c) => Reply::Two(v as u64, c.at as u64),
-        WordRead::Short => Reply::Short,
+        WordRead::Short => Reply::Declined(3),
     }
 }
 
@@ -96,7 +123,7 @@ pub fn of_field(x: FieldRead) -> Reply
 {
     match x {
         FieldRead::Value(v, c) => Reply::Two(v as u64, c.bit as u64),
-        FieldRead::Short => Reply::Short,
+        FieldRead::Short => Reply::Declined(3),
     }
 }
 
@@ -108,7 +135,7 @@ pub fn of_header(x: BoxHeader) -> Reply
             Reply::Three(fourcc as u64, body as u64, end as u64)
         }
         BoxHeader::ListEnd => Reply::Nothing,
-        BoxHeader::BadSize => Reply::BadSize,
+        BoxHeader::BadSize => Reply::Declined(6),
     }
 }
 
@@ -118,5 +145,15 @@ pub fn of_put(x: Put) -> Reply
     match x {
         Put::Done => Reply::Nothing,
         Put::Needs(n) => Reply::Needs(n as u64),
+    }
+}
+
+pub fn of_filled(x: Filled) -> Reply
+    ensures { λ r. ⌜ says r ≡ told one (filledSays x) ⌝ }
+{
+    match x {
+        Filled::Count(n) => Reply::One(n as u64),
+        Filled::Needs(n) => Reply::Needs(n as u64),
+        Filled::Declined(k) => Reply::Declined(k),
     }
 }

@@ -1,3 +1,5 @@
+use std::fmt::Debug;
+
 use reference::pano;
 
 use crate::answer::Answer;
@@ -82,13 +84,13 @@ impl Counts {
             6 * (c + 1) * (c + 1),
             pano::cubemap_vertex_count(cells),
             |words| probe_sys::cubemap_vertex_count(cells, words),
-            ("cubemap_vertex_count", cells, cells),
+            ("cubemap_vertex_count", cells),
         );
         self.check(
             36 * c * c,
             pano::cubemap_index_count(cells),
             |words| probe_sys::cubemap_index_count(cells, words),
-            ("cubemap_index_count", cells, cells),
+            ("cubemap_index_count", cells),
         );
     }
 
@@ -97,7 +99,7 @@ impl Counts {
         exact: u128,
         theirs: usize,
         ours: impl FnOnce(&mut [u64]) -> i64,
-        input: (&str, u32, u32),
+        input: impl Debug,
     ) {
         if exact >> 64 == 0 {
             self.tally.call(&Answer::place(theirs), ours, || input);

@@ -5,20 +5,20 @@ use crate::fill::{self, before, lengths};
 use crate::options::Options;
 use crate::random::Random;
 use crate::run_on::boundaries;
+use crate::shares::{self, faces_around, MOST_PADDING};
 use crate::tally::Tally;
 
 const NAME: &str = "cube";
 const CELLS: i64 = 9;
 const NUMBERS: i64 = 11;
 const MOST_CELLS: u32 = 103;
-const MOST_PADDING: u32 = 4096;
-const MOST_FACE: u32 = 16_384;
 /// From here on the Rust's counts wrap.
 const WRAPS: u32 = 715_827_883;
 /// Up to so many cells every radius is taken with every share.
 const FEW_CELLS: u32 = 12;
-const RANDOM: u32 = 1_000_000;
-const RANDOM_MESHES: u32 = 20_000;
+const RANDOM: u32 = 20_000;
+/// Enough for a mesh of three cells.
+const LENT: usize = 6 * 16 * VERTEX_FLOATS;
 
 const RADII: [f32; 13] = [
     1.0,
@@ -62,17 +62,17 @@ pub fn run(options: &Options) -> Vec<Tally> {
         "against pano::cubemap_mesh, with the number of its refusal; of a NaN only that it is one";
     let mut meshes = Tally::new(options, "cube mesh", what);
     let mut random = Random::new(options.seed, NAME);
-    for cells in (0..=2 * MOST_CELLS).chain(boundaries()) {
-        if cells < WRAPS {
-            make_indices(&mut indices, cells);
-            make_meshes(&mut meshes, &mut random, cells);
-        }
+    let more = boundaries().into_iter().filter(|cells| *cells < WRAPS);
+    for cells in (0..=2 * MOST_CELLS).chain(WRAPS - 100..WRAPS).chain(more) {
+        make_indices(&mut indices, cells);
+        make_meshes(&mut meshes, &mut random, cells);
     }
     padded_meshes(&mut meshes);
     random_meshes(&mut meshes, &mut random);
     let beyond = beyond(options, &mut random);
-    let shares = shares(options, &mut random);
-    vec![indices, meshes, beyond, shares, halves(options)]
+    let mut tallies = vec![indices, meshes, beyond];
+    tallies.extend(shares::run(options));
+    tallies
 }
 
 fn make_indices(tally: &mut Tally, cells: u32) {
@@ -116,16 +116,13 @@ fn padded_meshes(tally: &mut Tally) {
     for padding in 0..=MOST_PADDING {
         for face in faces_around(padding) {
             let share = padding as f32 / face as f32;
-            mesh_on(tally, 1 + padding % 3, 1.0, share, MOST_LENT);
+            mesh_on(tally, 1 + padding % 3, 1.0, share, LENT);
         }
     }
 }
 
-/// Enough for every mesh that is made with it.
-const MOST_LENT: usize = 6 * 16 * VERTEX_FLOATS;
-
 fn random_meshes(tally: &mut Tally, random: &mut Random) {
-    for _ in 0..RANDOM_MESHES {
+    for _ in 0..RANDOM {
         let cells = random.below(8) as u32;
         let radius = f32::from_bits(random.word());
         let share = f32::from_bits(random.below(0x3F00_0010) as u32);
@@ -138,7 +135,7 @@ fn cells_usable(cells: u32) -> bool {
 }
 
 fn numbers_usable(radius: f32, share: f32) -> bool {
-    radius.is_finite() && 0.0 <= share && share < 0.5
+    radius.is_finite() && (0.0..0.5).contains(&share)
 }
 
 /// The exact number of indices, or 0 for cells that are not usable.
@@ -209,63 +206,6 @@ fn beyond(options: &Options, random: &mut Random) -> Tally {
             |out, words| probe_sys::cubemap_mesh(cells, radius, share, out, words),
             || (cells, radius.to_bits(), share.to_bits(), lent),
         );
-    }
-    tally
-}
-
-/// Widths of a face around twice a padding.
-fn faces_around(padding: u32) -> impl Iterator<Item = u32> {
-    (2 * padding).saturating_sub(4).max(1)..=2 * padding + 4
-}
-
-fn shares(options: &Options, random: &mut Random) -> Tally {
-    let what = "bits against `p as f32 / f as f32`; of a NaN only that it is one";
-    let mut tally = Tally::new(options, "padding_share", what);
-    for padding in boundaries() {
-        for face in boundaries() {
-            check_share(&mut tally, padding, face);
-        }
-    }
-    for padding in 0..=MOST_PADDING {
-        for face in faces_around(padding).chain([0, MOST_FACE]) {
-            check_share(&mut tally, padding, face);
-        }
-    }
-    for _ in 0..RANDOM {
-        check_share(&mut tally, random.word(), random.word());
-        let (padding, face) = (random.any_size() as u32, random.any_size() as u32);
-        check_share(&mut tally, padding, face);
-    }
-    tally
-}
-
-fn check_share(tally: &mut Tally, padding: u32, face: u32) {
-    let due = padding as f32 / face as f32;
-    let ours = probe_sys::padding_share(padding, face);
-    let both_nan = due.is_nan() && f32::from_bits(ours as u32).is_nan();
-    let due = if both_nan {
-        ours
-    } else {
-        i64::from(due.to_bits())
-    };
-    tally.check(ours, due, || (padding, face));
-}
-
-/// A padding is less than half of a face exactly where its share is below one half.
-fn halves(options: &Options) -> Tally {
-    let what = "the share is below 0.5 exactly where 2p < F, for p up to 4096 and F up to 16384";
-    let mut tally = Tally::new(options, "padding_share halves", what);
-    for padding in 0..=MOST_PADDING {
-        let mut check = |face: u32| {
-            let share = f32::from_bits(probe_sys::padding_share(padding, face) as u32);
-            tally.check(share < 0.5, 2 * padding < face, || (padding, face));
-        };
-        if options.long {
-            (1..=MOST_FACE).for_each(check);
-        } else {
-            faces_around(padding).for_each(&mut check);
-            check(MOST_FACE);
-        }
     }
     tally
 }

@@ -28,8 +28,9 @@ impl Item for u16 {
 }
 
 impl Item for u32 {
+    /// No NaN.
     fn before(place: usize) -> u32 {
-        (place as u32).wrapping_mul(0x9E37_79B9) ^ 0xA5C3_0F1E
+        (place as u32).wrapping_mul(0x9E37_79B9) & 0xBFFF_FFFF ^ 0xA5C3_0F1E
     }
 
     fn same(self, due: u32) -> bool {
@@ -93,13 +94,16 @@ pub fn check<T: Item, I: Debug>(
 }
 
 fn first_wrong<T: Item>(out: &[T], after: &[T]) -> Option<Wrong<T>> {
-    let beyond = (after.len()..out.len()).map(T::before);
-    let due = after.iter().copied().chain(beyond);
-    let pairs = out.iter().copied().zip(due).enumerate();
-    for (place, (ours, due)) in pairs {
-        if !ours.same(due) {
-            return Some(Wrong { place, ours, due });
-        }
-    }
-    None
+    let equal = if out.starts_with(after) {
+        after.len()
+    } else {
+        0
+    };
+    let due = |place: usize| after.get(place).copied().unwrap_or(T::before(place));
+    let place = (equal..out.len()).find(|&place| !out[place].same(due(place)))?;
+    Some(Wrong {
+        place,
+        ours: out[place],
+        due: due(place),
+    })
 }

@@ -24,6 +24,7 @@ mod put_word;
 mod random;
 mod run_on;
 mod scale;
+mod shares;
 mod sphere;
 mod stepped;
 mod sum_fields;

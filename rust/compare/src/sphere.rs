@@ -134,7 +134,8 @@ impl Sphere {
 
     fn random_grids(&mut self) {
         for _ in 0..RANDOM {
-            let line = self.random.any_size() as u32 % 65_536;
+            let shift = 48 + self.random.below(16);
+            let line = (self.random.draw() >> shift) as u32;
             let most = MOST_VERTICES as usize / (line as usize + 1);
             let other = self.random.below(most + 2) as u32;
             self.grid(line, other);

@@ -1,0 +1,36 @@
+-- `probe_cubemap_mesh` meets its contract. Assumes nothing.
+use Rattle.probe.proofs.Handed.{handed-filled}
+use borrow.Author.Needs.{needs}
+use Rattle.probe.proofs.grids.probe_cubemap_mesh.Statement.{statement}
+use Rattle.probe.proofs.grids.probe_cubemap_mesh.Tie as tie
+
+cubemap-mesh-requires : tie.Need-cubemap-mesh-requires
+cubemap-mesh-requires c κs = search needs
+
+of-filled-requires : tie.Need-of-filled-requires
+of-filled-requires c κs = search needs
+
+tell-requires : tie.Need-tell-requires
+tell-requires c κs = search needs
+
+same-length : tie.Need-same-length
+same-length c = search needs
+
+same-length-2 : tie.Need-same-length-2
+same-length-2 c = search needs
+
+returns : tie.Need-returns
+returns c =
+    let t = c .before .before in
+    handed-filled _ (t .tell .ok) (t .tell .ensures) (t .before .of-filled .ensures) (t .before .before .before .before .cubemap-mesh .ensures)
+
+pub probe-cubemap-mesh-spec : {M : Type 1} → statement M
+probe-cubemap-mesh-spec =
+    tie.close
+    (tie.spec
+    cubemap-mesh-requires
+    of-filled-requires
+    tell-requires
+    same-length
+    same-length-2
+    returns)

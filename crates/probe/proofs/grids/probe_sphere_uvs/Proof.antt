@@ -1,0 +1,36 @@
+-- `probe_sphere_uvs` meets its contract. Assumes nothing.
+use Rattle.probe.proofs.Handed.{handed-filled}
+use borrow.Author.Needs.{needs}
+use Rattle.probe.proofs.grids.probe_sphere_uvs.Statement.{statement}
+use Rattle.probe.proofs.grids.probe_sphere_uvs.Tie as tie
+
+sphere-uvs-requires : tie.Need-sphere-uvs-requires
+sphere-uvs-requires c κs = search needs
+
+of-filled-requires : tie.Need-of-filled-requires
+of-filled-requires c κs = search needs
+
+tell-requires : tie.Need-tell-requires
+tell-requires c κs = search needs
+
+same-length : tie.Need-same-length
+same-length c = search needs
+
+same-length-2 : tie.Need-same-length-2
+same-length-2 c = search needs
+
+returns : tie.Need-returns
+returns c =
+    let t = c .before .before in
+    handed-filled _ (t .tell .ok) (t .tell .ensures) (t .before .of-filled .ensures) (t .before .before .before .before .sphere-uvs .ensures)
+
+pub probe-sphere-uvs-spec : {M : Type 1} → statement M
+probe-sphere-uvs-spec =
+    tie.close
+    (tie.spec
+    sphere-uvs-requires
+    of-filled-requires
+    tell-requires
+    same-length
+    same-length-2
+    returns)
