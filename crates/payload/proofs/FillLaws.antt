@@ -6,8 +6,8 @@ use mathlib.Core.Logic.{_⊎_, inl, inr}
 use native.Mathlib.Nat.{suc-mul, add-suc, suc-add, add-zero, zero-add, zero-mul, le-refl}
 use native.Mathlib.Numerals.{add-one}
 use native.Mathlib.Omega.{arith}
-use lib.ListN.{length, take, drop, set, length-append}
-use lib.Seq.{sets, sets-eq, length-sets}
+use lib.ListN.{length, take, drop, set, length-append, getD, List·getD-append}
+use lib.Seq.{sets, sets-eq, length-sets, getD-append-add, length-take-le}
 use borrow.Author.Tests.{le-leb, lt-leb}
 use Rattle.bits.specs.Verdict.{Verdict, accepted, needs, declined}
 use Rattle.bits.proofs.VerdictLaws.{le-or-lt, within-yes, within-no}
@@ -60,6 +60,28 @@ sets-each f n d l o w e h =
     ap₂ (λ (x : List ℕ) (k : ℕ). sets x k (f n)) e h
     ∙ sym (sets-append (each f n) (f n) d o)
     ∙ ap (λ (x : List ℕ). sets d o x) (sym (each-more f n))
+
+pub set-five : (d : List ℕ) (o x₁ x₂ x₃ x₄ x₅ : ℕ) → set (set (set (set (set d o x₁) (o + 1) x₂) (o + 2) x₃) (o + 3) x₄) (o + 4) x₅ ≡ sets d o (x₁ ∷ x₂ ∷ x₃ ∷ x₄ ∷ x₅ ∷ [])
+set-five d o x₁ x₂ x₃ x₄ x₅ =
+    let e₁ : o + 1 ≡ suc o = omega arith in
+    let e₂ : o + 2 ≡ suc (suc o) = omega arith in
+    let e₃ : o + 3 ≡ suc (suc (suc o)) = omega arith in
+    let e₄ : o + 4 ≡ suc (suc (suc (suc o))) = omega arith in
+    rw (e₁, e₂, e₃, e₄)
+
+-- two lists, where t is the place after the first
+pub sets-after : (p q d : List ℕ) (o t : ℕ) → o + length p ≡ t → sets d o (p ++ q) ≡ sets (sets d o p) t q
+sets-after p q d o t e = sets-append p q d o ∙ ap (λ (k : ℕ). sets (sets d o p) k q) e
+
+-- what was stored is read back
+pub getD-sets : (d : List ℕ) (o : ℕ) (vs : List ℕ) (i : ℕ) → o + length vs ≤ length d → i < length vs → getD (sets d o vs) (o + i) 0 ≡ getD vs i 0
+getD-sets d o vs i h l =
+    let e : length (take o d) ≡ o = length-take-le o d (omega arith) in
+    let g : o + i < length (take o d ++ vs) = omega (arith, length-append (take o d) vs) in
+    ap (λ (x : List ℕ). getD x (o + i) 0) (sets-eq vs d o h)
+    ∙ List·getD-append (take o d ++ vs) (drop (o + length vs) d) 0 (o + i) g
+    ∙ ap (λ (k : ℕ). getD (take o d ++ vs) (k + i) 0) (sym e)
+    ∙ getD-append-add (take o d) vs i 0
 
 -- ---- a buffer that is filled piece by piece
 

@@ -13,3 +13,13 @@ pub mod ViewLaws
 pub mod CropProofs
 pub mod SphereMarked
 pub mod CubeMarked
+pub mod RunLaws
+pub mod WindowLaws
+pub mod StepLaws
+pub mod MeshReadLaws
+pub mod MeshTheorems
+pub mod MeshProofs
+pub mod CheckLaws
+pub mod MeasureLaws
+pub mod DrawLaws
+pub mod RecordLaws

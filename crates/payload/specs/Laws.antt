@@ -9,6 +9,9 @@ use Rattle.bits.specs.Field.{field}
 use Rattle.bits.specs.Laws.{Bytes}
 use Rattle.payload.specs.Equi.{EquiSpells, equiRead, equiWritten}
 use Rattle.payload.specs.Cbmp.{CbmpSpells, cbmpRead, cbmpWritten}
+use Rattle.payload.specs.Mesh.{Mesh}
+use Rattle.payload.specs.MeshSpells.{MeshesSpell}
+use Rattle.payload.specs.MeshRead.{readMeshes}
 use Rattle.payload.specs.declared.equi.EquiFields.{EquiFields}
 
 -- a kind: its readings, how a reading spells a payload, and reading
@@ -57,3 +60,8 @@ CbmpReads = Reads ℕ CbmpSpells cbmpRead
 
 abbrev pub CbmpWrites : Type 0
 CbmpWrites = Writes ℕ CbmpSpells cbmpRead (λ p. p < 2 ^ 32) cbmpWritten (PlainBytes 12)
+
+-- ---- kind 2
+
+abbrev pub MeshesReads : Type 0
+MeshesReads = Reads (List Mesh) MeshesSpell readMeshes

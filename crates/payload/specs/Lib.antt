@@ -16,3 +16,11 @@ pub mod ShareLaws
 pub mod CropMarked
 pub mod SphereMarked
 pub mod CubeMarked
+pub mod Mesh
+pub mod Run
+pub mod MeshSpells
+pub mod MeshRead
+pub mod MeshDrawing
+pub mod MeshMarked
+pub mod Meshes
+pub mod Internal

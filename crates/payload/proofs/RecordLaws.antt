@@ -1,0 +1,182 @@
+-- What the walk that stores records learns of a mesh list that was read, and that it stores the list's records piece by piece. Assumes nothing.
+use Prim.Native.Nat.{ℕ, suc, _+_, _-_, _*_, _≤_, _<_}
+use mathlib.Core.Path.{_≡_, refl, sym, ap, _∙_}
+use mathlib.Core.List.{List, [], _∷_, _++_, append-assoc, append-nil}
+use native.Mathlib.Omega.{arith}
+use lib.ListN.{length, length-append}
+use lib.Seq.{sets}
+use Rattle.bits.specs.Verdict.{accepted, needs, declined, mapped}
+use Rattle.bits.specs.Field.{field}
+use Rattle.bits.specs.Number.{widthOf}
+use Rattle.bits.specs.Header.{listEnd, headerAt}
+use Rattle.bits.proofs.VerdictLaws.{within-yes, within-no}
+use Rattle.payload.specs.Fill.{front}
+use Rattle.payload.specs.Payload.{limited}
+use Rattle.payload.specs.Mesh.{Submesh, Mesh}
+use Rattle.payload.specs.MeshSpells.{meshType}
+use Rattle.payload.specs.MeshRead.{many, readSubmesh, readMeshes, readFrom}
+use Rattle.payload.specs.MeshDrawing.{submeshRecords, pointCount, recordsFrom, drawnRecords, pointTotal}
+use Rattle.payload.specs.Meshes.{listSize, listCounts, recordedAnswer, recordsAnswer}
+use Rattle.payload.specs.Internal.{WasRead, valueOr, submeshesRead, meshRead, boxRead, meshesFrom, recordWords, RecordRoom, afterRecords}
+use Rattle.payload.specs.declared.mesh.draw.Record.{Record}
+use Rattle.payload.specs.declared.mesh.draw.RecordPlace.{RecordPlace}
+use Rattle.payload.specs.declared.mesh.measure.MeshListSize.{MeshListSize}
+use Rattle.payload.proofs.FillLaws.{sets-append, sets-after, front-yes, front-no}
+use Rattle.payload.proofs.StepLaws.{read-value}
+use Rattle.payload.proofs.MeasureLaws.{records-on, list-fits}
+use Rattle.payload.proofs.DrawLaws.{SubmeshTurn, MeshKnown, box-skipped, BoxTurn, list-end, Listed, not-listed, listed-lengths}
+
+-- ---- submeshes
+
+pub records-none : (number first : ℕ) (l : List Submesh) → l ≡ [] → submeshRecords number first l ≡ []
+unfolding submeshRecords
+records-none number first l e = rw e
+
+-- the record of a submesh was stored, and the others' are left
+pub record-stored : (s : List ℕ) (w m left bit : ℕ) (x : Submesh) (r : Record) (d d′ : List ℕ) (o : ℕ) → SubmeshTurn s w m left bit (r .points) x
+    → r .texture ≡ field s bit 8 → r .mode ≡ field s (bit + 8) 8 → d′ ≡ sets d o (recordWords r)
+    → sets d o (submeshRecords (r .mesh) (r .first) (submeshesRead (many (readSubmesh s w m) left bit)))
+    ≡ sets d′ (o + 5) (submeshRecords (r .mesh) (r .first + r .points) (submeshesRead (many (readSubmesh s w m) (left - 1) (bit + (48 + r .points * w)))))
+unfolding submeshRecords
+record-stored s w m left bit x r d d′ o t a b e =
+    let l = submeshesRead (many (readSubmesh s w m) (left - 1) (bit + (48 + r .points * w))) in
+    let i : r .texture ≡ x .texture = a ∙ t .texture in
+    let j : r .mode ≡ x .mode = b ∙ t .mode in
+    let h : d′ ≡ sets d o (r .mesh ∷ x .texture ∷ x .mode ∷ r .first ∷ length (x .points) ∷ []) = e ∙ ap (sets d o) (λ k. r .mesh ∷ i k ∷ j k ∷ r .first ∷ t .count k ∷ []) in
+    ap (λ (y : List Submesh). sets d o (submeshRecords (r .mesh) (r .first) y)) (t .is)
+    ∙ sets-after (r .mesh ∷ x .texture ∷ x .mode ∷ r .first ∷ length (x .points) ∷ []) (submeshRecords (r .mesh) (r .first + length (x .points)) l) d o (o + 5) refl
+    ∙ rw h (ap (λ (k : ℕ). sets (sets d o (r .mesh ∷ x .texture ∷ x .mode ∷ r .first ∷ length (x .points) ∷ [])) (o + 5) (submeshRecords (r .mesh) (r .first + k) l)) (sym (t .count)))
+
+-- ---- a mesh
+
+one-record : (number first : ℕ) (x : Mesh) → recordsFrom number first (x ∷ []) ≡ submeshRecords number first (x .submeshes)
+unfolding recordsFrom
+one-record number first x = append-nil (submeshRecords number first (x .submeshes))
+
+module _ {s : List ℕ} {n m w k first : ℕ} (K : MeshKnown s n m w k first) (to : RecordPlace) where
+  records-long : length (recordsFrom (to .mesh) (to .first) (meshRead s ∷ [])) ≡ 5 * k
+  records-long = records-on (to .mesh) (to .first) (meshRead s ∷ []) ∙ omega (arith, K .count)
+
+  points-are : pointTotal (meshRead s ∷ []) ≡ pointCount (submeshesRead (many (readSubmesh s (widthOf m) m) k first))
+  points-are = ap (λ (l : List Submesh). pointCount l + 0) (sym (K .are)) ∙ omega arith
+
+  pub record-room : (a : ℕ) → RecordRoom (meshRead s ∷ []) to a
+      → (to .off + 5 * k ≤ a) × (to .first + pointCount (submeshesRead (many (readSubmesh s (widthOf m) m) k first)) < 4294967296)
+  record-room a r = (omega (arith, r .records, records-long), omega (arith, r .points, points-are))
+
+  -- the place after its records
+  pub record-placed : (f : ℕ) → f ≡ to .first + pointCount (submeshesRead (many (readSubmesh s (widthOf m) m) k first))
+      → _≡_ {A = RecordPlace} (record { mesh = to .mesh + 1; first = f; off = to .off + 5 * k }) (afterRecords to (meshRead s ∷ []))
+  record-placed f e = rw (e, records-long, points-are)
+
+  pub mesh-recorded : (d d′ : List ℕ) → d′ ≡ sets d (to .off) (submeshRecords (to .mesh) (to .first) (submeshesRead (many (readSubmesh s (widthOf m) m) k first)))
+      → d′ ≡ sets d (to .off) (recordsFrom (to .mesh) (to .first) (meshRead s ∷ []))
+  mesh-recorded d d′ e = e ∙ rw (K .are, one-record (to .mesh) (to .first) (meshRead s))
+
+-- ---- boxes
+
+-- a box of another type leaves all as it was
+pub box-recorded-none : (s : List ℕ) (type body end : ℕ) → (type ≡ meshType → ⊥) → (to : RecordPlace) (d : List ℕ)
+    → (to ≡ afterRecords to (boxRead s type body end)) × (d ≡ sets d (to .off) (recordsFrom (to .mesh) (to .first) (boxRead s type body end)))
+unfolding recordsFrom
+box-recorded-none s type body end n to d =
+    let x : to .mesh + 0 ≡ to .mesh = omega arith in
+    let y : to .first + 0 ≡ to .first = omega arith in
+    let z : to .off + 0 ≡ to .off = omega arith in
+    let i : boxRead s type body end ≡ [] = ap (valueOr []) (box-skipped s type body end n) in
+    rw i (rw (x, y, z) refl, refl)
+
+points-append : (a b : List Mesh) → pointTotal (a ++ b) ≡ pointTotal a + pointTotal b
+points-append [] b = omega arith
+points-append (x ∷ a) b = omega (arith, points-append a b)
+
+records-append : (number first : ℕ) (a b : List Mesh)
+    → recordsFrom number first (a ++ b) ≡ recordsFrom number first a ++ recordsFrom (number + length a) (first + pointTotal a) b
+unfolding recordsFrom
+records-append number first [] b =
+    let x : number + 0 ≡ number = omega arith in
+    let y : first + 0 ≡ first = omega arith in
+    rw (x, y)
+records-append number first (x ∷ a) b =
+    let l = submeshRecords number first (x .submeshes) in
+    let p = pointCount (x .submeshes) in
+    let i : number + 1 + length a ≡ number + suc (length a) = omega arith in
+    let j : first + p + pointTotal a ≡ first + (p + pointTotal a) = omega arith in
+    ap (λ (r : List ℕ). l ++ r) (records-append (number + 1) (first + p) a b ∙ rw (i, j))
+    ∙ sym (append-assoc l (recordsFrom (number + 1) (first + p) a) (recordsFrom (number + suc (length a)) (first + (p + pointTotal a)) b))
+
+-- what a loop that stores records keeps: storing the records that are left gives the same as storing all at first
+pub record RecordsLeft (s rec₀ rec : List ℕ) (at : ℕ) (to : RecordPlace) : Type 0 where
+  pub same : sets rec₀ 0 (drawnRecords (meshesFrom s 0)) ≡ sets rec (to .off) (recordsFrom (to .mesh) (to .first) (meshesFrom s at))
+  pub read : WasRead (readFrom s at)
+  pub room : RecordRoom (meshesFrom s at) to (length rec)
+  pub long : length rec ≡ length rec₀
+
+-- at its start: meshes and points take a bit or more each, so that their numbers fit words
+pub records-start : (s rec : List ℕ) → length s ≤ 67108864 → WasRead (readMeshes s) → length (drawnRecords (meshesFrom s 0)) ≤ length rec
+    → RecordsLeft s rec rec 0 (record { mesh = 0; first = 0; off = 0 })
+records-start s rec h r l =
+    let v = read-value (readMeshes s) r in
+    let e : meshesFrom s 0 ≡ v .0 = ap (valueOr []) (v .1) in
+    let f = list-fits s (v .0) (v .1) in
+    record { same = refl; read = r; room = record { records = omega arith; meshes = rw e (omega (arith, f .0)); points = rw e (omega (arith, f .1)) }; long = refl }
+
+module _ {s rec₀ rec : List ℕ} {at : ℕ} {to : RecordPlace} (L : RecordsLeft s rec₀ rec at to) where
+  pub records-end : headerAt s at ≡ accepted listEnd → rec ≡ sets rec₀ 0 (drawnRecords (meshesFrom s 0))
+  unfolding recordsFrom
+  records-end h = sym (L .same ∙ ap (λ (l : List Mesh). sets rec (to .off) (recordsFrom (to .mesh) (to .first) l)) (list-end s at h))
+
+  module _ (type body end : ℕ) (T : BoxTurn s at type body end) where
+    records-are : recordsFrom (to .mesh) (to .first) (meshesFrom s at)
+        ≡ recordsFrom (to .mesh) (to .first) (boxRead s type body end) ++ recordsFrom (to .mesh + length (boxRead s type body end)) (to .first + pointTotal (boxRead s type body end)) (meshesFrom s end)
+    records-are = ap (recordsFrom (to .mesh) (to .first)) (T .is) ∙ records-append (to .mesh) (to .first) (boxRead s type body end) (meshesFrom s end)
+
+    records-sum : length (recordsFrom (to .mesh) (to .first) (meshesFrom s at))
+        ≡ length (recordsFrom (to .mesh) (to .first) (boxRead s type body end)) + length (recordsFrom (to .mesh + length (boxRead s type body end)) (to .first + pointTotal (boxRead s type body end)) (meshesFrom s end))
+    records-sum = ap length records-are ∙ length-append (recordsFrom (to .mesh) (to .first) (boxRead s type body end)) _
+
+    meshes-sum : length (meshesFrom s at) ≡ length (boxRead s type body end) + length (meshesFrom s end)
+    meshes-sum = ap length (T .is) ∙ length-append (boxRead s type body end) (meshesFrom s end)
+
+    points-sum : pointTotal (meshesFrom s at) ≡ pointTotal (boxRead s type body end) + pointTotal (meshesFrom s end)
+    points-sum = ap pointTotal (T .is) ∙ points-append (boxRead s type body end) (meshesFrom s end)
+
+    pub records-room : RecordRoom (boxRead s type body end) to (length rec)
+    records-room =
+        record { records = omega (arith, L .room .records, records-sum); meshes = omega (arith, L .room .meshes, meshes-sum); points = omega (arith, L .room .points, points-sum) }
+
+    pub records-on-box : (rec′ : List ℕ) (to′ : RecordPlace) → length rec′ ≡ length rec → rec′ ≡ sets rec (to .off) (recordsFrom (to .mesh) (to .first) (boxRead s type body end))
+        → to′ ≡ afterRecords to (boxRead s type body end) → RecordsLeft s rec₀ rec′ end to′
+    records-on-box rec′ to′ a c e =
+        rw e
+        (record {
+          same = L .same ∙ rw (records-are, c) (sets-append (recordsFrom (to .mesh) (to .first) (boxRead s type body end)) _ rec (to .off));
+          read = T .rest;
+          room = record { records = omega (arith, L .room .records, records-sum); meshes = omega (arith, L .room .meshes, meshes-sum); points = omega (arith, L .room .points, points-sum) };
+          long = a ∙ L .long;
+        })
+
+-- ---- the records alone
+
+module _ (s rec : List ℕ) where
+  pub records-declined : (k : ℕ) → declined k ≡ limited s (mapped listSize (readMeshes s))
+      → (declined k ≡ recordsAnswer s (length rec)) × (rec ≡ front (mapped drawnRecords (limited s (readMeshes s))) rec)
+  records-declined k e = let d = not-listed s k e in (rw d refl, rw d refl)
+
+  module _ {n : MeshListSize} (L : Listed s n) where
+    pub records-short : length rec < n .records
+        → (needs (n .records ∷ []) ≡ recordsAnswer s (length rec)) × (rec ≡ front (mapped drawnRecords (limited s (readMeshes s))) rec)
+    unfolding recordedAnswer
+    records-short x =
+        let h = listed-lengths L in
+        let l = drawnRecords (meshesFrom s 0) in
+        rw (L .is) (sym (within-no (length l) (length rec) (listCounts (meshesFrom s 0)) (needs (length l ∷ [])) (omega arith) ∙ rw (h .2)), front-no l rec (omega arith))
+
+    pub records-all : n .records ≤ length rec → (rec′ : List ℕ) → rec′ ≡ sets rec 0 (drawnRecords (meshesFrom s 0))
+        → (accepted (n .meshes, n .submeshes, n .points) ≡ recordsAnswer s (length rec)) × (rec′ ≡ front (mapped drawnRecords (limited s (readMeshes s))) rec)
+    unfolding recordedAnswer listSize
+    records-all x rec′ e =
+        let h = listed-lengths L in
+        let l = drawnRecords (meshesFrom s 0) in
+        let i : _≡_ {A = ℕ × ℕ × ℕ} (n .meshes, n .submeshes, n .points) (listCounts (meshesFrom s 0)) = ap (λ (m : MeshListSize). (m .meshes, m .submeshes, m .points)) (L .size) in
+        rw (L .is) (ap accepted i ∙ sym (within-yes (length l) (length rec) (listCounts (meshesFrom s 0)) (needs (length l ∷ [])) (omega arith)), e ∙ front-yes l rec (omega arith))

@@ -1,0 +1,137 @@
+-- `check_points` meets its contract. The invariant: the answer from here on is the whole answer. Assumes nothing.
+use Prim.Native.Nat.{_*_, _≤_}
+use mathlib.Core.Path.{_≡_, refl, sym, _∙_}
+use mathlib.Core.List.{[], _∷_}
+use native.Mathlib.Omega.{arith}
+use lib.ListN.{length}
+use borrow.Author.Needs.{needs}
+use Rattle.bits.specs.Verdict.{mapped}
+use Rattle.payload.specs.Run.{readRun, one}
+use Rattle.payload.specs.Internal.{placeOf}
+use Rattle.payload.proofs.CheckLaws.{three-out₁, three-out₂, three-out₃, three-on}
+use Rattle.payload.proofs.mesh.measure.check_points.Statement.{statement}
+use Rattle.payload.proofs.mesh.measure.check_points.Tie as tie
+
+abbrev Inv-loop : tie.InvT-loop
+Inv-loop s p w limit count end group bit₀ last₀ left₀ bit last left =
+    (mapped placeOf (readRun s w limit count p one) ≡ mapped placeOf (readRun s w limit left bit (last ∷ []))) × (64 ≤ bit) × (bit ≤ 8 * length s)
+
+abbrev μ-loop : tie.MeasureT-loop
+μ-loop s p w limit count end group bit₀ last₀ left₀ bit last left = left
+
+mul-end : tie.Need-mul-end Inv-loop μ-loop
+mul-end c = omega arith
+
+mul-group : tie.Need-mul-group Inv-loop μ-loop
+mul-group c = omega arith
+
+loop-holds : tie.Need-loop-holds Inv-loop μ-loop
+loop-holds c = (refl, omega arith, omega arith)
+
+sub-if1 : tie.Need-sub-if1 Inv-loop μ-loop
+sub-if1 c = omega arith
+
+check-points-left-requires : tie.Need-check-points-left-requires Inv-loop μ-loop
+check-points-left-requires c κs = omega arith
+
+returns : tie.Need-returns Inv-loop μ-loop
+returns c = c .check-points-left .ensures ∙ sym (c .before .before .before .loop .inv .0)
+
+three-fields-requires : tie.Need-three-fields-requires Inv-loop μ-loop
+three-fields-requires c κs = omega arith
+
+stepped-requires : tie.Need-stepped-requires Inv-loop μ-loop
+stepped-requires c κs = search needs
+
+returns-2 : tie.Need-returns-2 Inv-loop μ-loop
+returns-2 c =
+    let m = c .before in
+    let l = m .before .before .before .before .loop in
+    let a = m .before .before .before .before .before .before .args in
+    sym (l .inv .0 ∙ three-out₁ (a .s .now) (a .w) (a .limit) (l .left) (l .bit) (l .last) (m .stepped .result) 0 0 (omega arith) (omega arith) (cc) (omega arith))
+
+cast-stepped : tie.Need-cast-stepped Inv-loop μ-loop
+cast-stepped c = omega arith
+
+stepped-requires-2 : tie.Need-stepped-requires-2 Inv-loop μ-loop
+stepped-requires-2 c κs = search needs
+
+returns-3 : tie.Need-returns-3 Inv-loop μ-loop
+returns-3 c =
+    let m = c .before .before .before in
+    let l = m .before .before .before .before .loop in
+    let a = m .before .before .before .before .before .before .args in
+    sym
+    (l .inv .0
+    ∙ three-out₂ (a .s .now) (a .w) (a .limit) (l .left) (l .bit) (l .last) (m .stepped .result) (c .before .stepped2 .result) 0 (omega arith) (omega arith) (cc) (omega arith) (cc) (omega arith))
+
+cast-stepped-2 : tie.Need-cast-stepped-2 Inv-loop μ-loop
+cast-stepped-2 c = omega arith
+
+stepped-requires-3 : tie.Need-stepped-requires-3 Inv-loop μ-loop
+stepped-requires-3 c κs = search needs
+
+returns-4 : tie.Need-returns-4 Inv-loop μ-loop
+returns-4 c =
+    let m = c .before .before .before .before .before in
+    let l = m .before .before .before .before .loop in
+    let a = m .before .before .before .before .before .before .args in
+    sym
+    (l .inv .0
+    ∙ three-out₃ (a .s .now) (a .w) (a .limit) (l .left) (l .bit) (l .last) (m .stepped .result) (c .before .before .before .stepped2 .result) (c .before .stepped3 .result)
+    (omega arith) (omega arith) (cc) (omega arith) (cc) (omega arith) (cc) (omega arith))
+
+cast-last : tie.Need-cast-last Inv-loop μ-loop
+cast-last c = omega arith
+
+add-bit : tie.Need-add-bit Inv-loop μ-loop
+add-bit c = omega arith
+
+loop-less : tie.Need-loop-less Inv-loop μ-loop
+loop-less c = omega arith
+
+loop-again : tie.Need-loop-again Inv-loop μ-loop
+loop-again c =
+    let m = c .before .before .before .before .before in
+    let l = m .before .before .before .before .loop in
+    let a = m .before .before .before .before .before .before .args in (
+      l .inv .0
+          ∙ three-on (a .s .now) (a .w) (a .limit) (l .left) (l .bit) (l .last) (m .stepped .result) (c .before .before .before .stepped2 .result) (c .before .stepped3 .result)
+          (omega arith) (omega arith) (cc) (omega arith) (cc) (omega arith) (cc) (omega arith),
+      omega arith,
+      omega arith,
+    )
+
+check-points-left-requires-2 : tie.Need-check-points-left-requires-2 Inv-loop μ-loop
+check-points-left-requires-2 c κs = omega arith
+
+returns-5 : tie.Need-returns-5 Inv-loop μ-loop
+returns-5 c = c .check-points-left2 .ensures ∙ sym (c .before .before .loop .inv .0)
+
+pub check-points-spec : {M : Type 1} → statement M
+check-points-spec =
+    tie.close
+    (tie.spec
+    Inv-loop
+    μ-loop
+    mul-end
+    mul-group
+    loop-holds
+    sub-if1
+    check-points-left-requires
+    returns
+    three-fields-requires
+    stepped-requires
+    returns-2
+    cast-stepped
+    stepped-requires-2
+    returns-3
+    cast-stepped-2
+    stepped-requires-3
+    returns-4
+    cast-last
+    add-bit
+    loop-less
+    loop-again
+    check-points-left-requires-2
+    returns-5)

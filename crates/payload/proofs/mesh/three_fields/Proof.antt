@@ -1,0 +1,53 @@
+-- `three_fields` meets its contract: each field lies in the window that ends with the third. Assumes nothing.
+use Prim.Native.Nat.{_+_, _*_}
+use native.Mathlib.Omega.{arith}
+use Rattle.payload.specs.Internal.{wideBits}
+use Rattle.payload.proofs.WindowLaws.{window-field}
+use borrow.Author.Needs.{needs}
+use Rattle.payload.proofs.mesh.three_fields.Statement.{statement}
+use Rattle.payload.proofs.mesh.three_fields.Tie as tie
+
+mul-wide-window : tie.Need-mul-wide-window
+mul-wide-window c = search needs
+
+add-wide-window : tie.Need-add-wide-window
+add-wide-window c = search needs
+
+wide-window-requires : tie.Need-wide-window-requires
+wide-window-requires c κs = search needs
+
+mul-bits-above : tie.Need-mul-bits-above
+mul-bits-above c = search needs
+
+bits-above-requires : tie.Need-bits-above-requires
+bits-above-requires c κs = search needs
+
+bits-above-requires-2 : tie.Need-bits-above-requires-2
+bits-above-requires-2 c κs = search needs
+
+bits-above-requires-3 : tie.Need-bits-above-requires-3
+bits-above-requires-3 c κs = search needs
+
+returns : tie.Need-returns
+returns c =
+    let a = c .before .before .before .before .before .args in
+    let x = c .before .before .before .wide-window in
+    let w = a .w in
+    let q = a .p + 3 * w in (
+      window-field (a .s .now) (a .p) w (2 * w) q (wideBits q) (x .result) _ (omega arith) (omega arith) (omega arith) (x .ensures) (c .before .before .bits-above .ensures),
+      window-field (a .s .now) (a .p + w) w w q (wideBits q) (x .result) _ (omega arith) (omega arith) (omega arith) (x .ensures) (c .before .bits-above2 .ensures),
+      window-field (a .s .now) (a .p + w + w) w 0 q (wideBits q) (x .result) _ (omega arith) (omega arith) (omega arith) (x .ensures) (c .bits-above3 .ensures),
+    )
+
+pub three-fields-spec : {M : Type 1} → statement M
+three-fields-spec =
+    tie.close
+    (tie.spec
+    mul-wide-window
+    add-wide-window
+    wide-window-requires
+    mul-bits-above
+    bits-above-requires
+    bits-above-requires-2
+    bits-above-requires-3
+    returns)

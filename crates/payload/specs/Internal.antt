@@ -1,0 +1,204 @@
+-- What the contracts of private functions of the mesh reader cite. No promise of a public call leans on these.
+use Prim.Native.Nat.{ℕ, _+_, _*_, _%_, _≤_, _<_}
+use mathlib.Core.Bool.{cond}
+use lib.Dec.{eqb}
+use lib.ListN.{length, getD}
+use mathlib.Core.Path.{_≡_}
+use mathlib.Core.List.{List, [], _∷_}
+use Rattle.bits.specs.Verdict.{Verdict, accepted, needs, declined, mapped}
+use Rattle.bits.specs.Field.{field}
+use Rattle.bits.specs.Number.{steppedTo, widthOf}
+use Rattle.payload.specs.Mesh.{Submesh, Mesh}
+use Rattle.payload.specs.Run.{Found}
+use Rattle.payload.specs.MeshSpells.{vertexCount, part, meshType, aligned, verticesAt}
+use Rattle.payload.specs.MeshRead.{readMesh, readFrom}
+use Rattle.payload.specs.MeshDrawing.{pointCount, pointTotal, drawnNumbers, drawnFloats, recordsFrom}
+use Rattle.payload.specs.declared.mesh.Five.{Five}
+use Rattle.payload.specs.declared.mesh.FiveNext.{FiveNext}
+use Rattle.payload.specs.declared.mesh.Head.{Head}
+use Rattle.payload.specs.declared.mesh.draw.Place.{Place}
+use Rattle.payload.specs.declared.mesh.draw.Record.{Record}
+use Rattle.payload.specs.declared.mesh.draw.RecordPlace.{RecordPlace}
+use Rattle.payload.specs.declared.mesh.measure.RunEnd.{RunEnd}
+use Rattle.payload.specs.declared.mesh.measure.RunEnd.the-variants as R
+use Rattle.payload.specs.declared.mesh.measure.SubmeshEnd.{SubmeshEnd}
+use Rattle.payload.specs.declared.mesh.measure.SubmeshEnd.the-variants as E
+use Rattle.payload.specs.declared.mesh.measure.SubmeshesSize.{SubmeshesSize}
+use Rattle.payload.specs.declared.mesh.measure.SubmeshesSize.the-variants as S
+use Rattle.payload.specs.declared.mesh.measure.BodySize.{BodySize}
+use Rattle.payload.specs.declared.mesh.measure.BodySize.the-variants as B
+use Rattle.payload.specs.declared.mesh.measure.Totals.{Totals}
+use Rattle.payload.specs.declared.mesh.measure.Totalled.{Totalled}
+use Rattle.payload.specs.declared.mesh.measure.Totalled.the-variants as T
+
+-- how many bits before bit q stand in the eight, or the five, bytes that end with it
+abbrev pub wideBits : ℕ → ℕ
+wideBits q = 57 + (q + 7) % 8
+
+abbrev pub narrowBits : ℕ → ℕ
+narrowBits q = 33 + (q + 7) % 8
+
+-- five running numbers as a list
+abbrev pub queue : Five → List ℕ
+queue v = v .a ∷ v .b ∷ v .c ∷ v .d ∷ v .e ∷ []
+
+abbrev pub queueNext : FiveNext → List ℕ
+queueNext v = v .a ∷ v .b ∷ v .c ∷ v .d ∷ v .e ∷ []
+
+abbrev pub AllBelow : ℕ → FiveNext → Type 0
+AllBelow limit v = (v .a < limit) × (v .b < limit) × (v .c < limit) × (v .d < limit) × (v .e < limit)
+
+-- the five fields from bit p on take the numbers v to the numbers r
+pub record Stepped5 (s : List ℕ) (w p : ℕ) (v : Five) (r : FiveNext) : Type 0 where
+  pub first : r .a ≡ steppedTo (v .a) (field s p w)
+  pub second : r .b ≡ steppedTo (v .b) (field s (p + w) w)
+  pub third : r .c ≡ steppedTo (v .c) (field s (p + w + w) w)
+  pub fourth : r .d ≡ steppedTo (v .d) (field s (p + w + w + w) w)
+  pub fifth : r .e ≡ steppedTo (v .e) (field s (p + w + w + w + w) w)
+
+-- it was accepted
+abbrev pub WasRead : {A : Type 0} → Verdict A → Type 0
+WasRead (accepted a) = Unit {0}
+WasRead (needs l) = ⊥
+WasRead (declined k) = ⊥
+
+-- the value that was accepted, or another
+abbrev pub valueOr : {A : Type 0} → A → Verdict A → A
+valueOr a (accepted b) = b
+valueOr a (needs l) = a
+valueOr a (declined k) = a
+
+-- the numbers of a run, none where it was refused
+abbrev pub runNumbers : Found (List ℕ) → List ℕ
+runNumbers v = valueOr ([], 0) v .0
+
+-- ---- what the validating pass keeps of what was read
+
+-- the place after a run
+abbrev pub placeOf : List ℕ × ℕ → ℕ
+placeOf x = x .1
+
+abbrev pub runSays : RunEnd → Verdict ℕ
+runSays (R.At q) = accepted q
+runSays (R.Declined k) = declined k
+
+-- a submesh's point count and the place after it
+abbrev pub pointsEnd : Submesh × ℕ → ℕ × ℕ
+pointsEnd x = (length (x .0 .points), x .1)
+
+abbrev pub submeshSays : SubmeshEnd → Verdict (ℕ × ℕ)
+submeshSays (E.At n q) = accepted (n, q)
+submeshSays (E.Declined k) = declined k
+
+-- how many submeshes, and their points
+abbrev pub submeshesSize : List Submesh × ℕ → ℕ × ℕ
+submeshesSize x = (length (x .0), pointCount (x .0))
+
+abbrev pub submeshesSays : SubmeshesSize → Verdict (ℕ × ℕ)
+submeshesSays (S.Size k n) = accepted (k, n)
+submeshesSays (S.Declined k) = declined k
+
+-- a mesh's vertices, submeshes and points
+abbrev pub bodySize : Mesh × ℕ → ℕ × ℕ × ℕ
+bodySize x = (vertexCount (x .0), length (x .0 .submeshes), pointCount (x .0 .submeshes))
+
+abbrev pub bodySays : BodySize → Verdict (ℕ × ℕ × ℕ)
+bodySays (B.Size m k n) = accepted (m, k, n)
+bodySays (B.Declined k) = declined k
+
+-- the totals with those of some meshes
+abbrev pub noTotals : Totals
+noTotals = record { meshes = 0; coordinates = 0; submeshes = 0; points = 0 }
+
+abbrev pub withMesh : Totals → Mesh → Totals
+withMesh t x =
+    record {
+      meshes = t .meshes + 1;
+      coordinates = t .coordinates + 5 * vertexCount x;
+      submeshes = t .submeshes + length (x .submeshes);
+      points = t .points + pointCount (x .submeshes);
+    }
+
+abbrev pub totalsOf : Totals → List Mesh → Totals
+totalsOf t [] = t
+totalsOf t (x ∷ l) = totalsOf (withMesh t x) l
+
+abbrev pub withBody : Totals → Mesh × ℕ → Totals
+withBody t x = withMesh t (x .0)
+
+abbrev pub totalsSays : Totalled → Verdict Totals
+totalsSays (T.Totals t) = accepted t
+totalsSays (T.Declined k) = declined k
+
+-- what is counted takes a bit or more of the bytes before byte p, and a submesh 48
+pub record Room (t : Totals) (p : ℕ) : Type 0 where
+  pub few : t .meshes ≤ p
+  pub bits : t .coordinates + 48 * t .submeshes + t .points ≤ 8 * p
+
+-- the totals with those of a box
+abbrev pub boxTotals : List ℕ → ℕ → ℕ → ℕ → Totals → Verdict Totals
+boxTotals s type body end t = cond (eqb type meshType) (mapped (withBody t) (readMesh (part s body end))) (accepted t)
+
+-- ---- what the filling pass goes by, and what it leaves
+
+-- the pool word of coordinate number c, in a mesh body
+abbrev pub poolWord : List ℕ → ℕ → ℕ
+poolWord s c = field s (32 + 32 * c) 32
+
+-- the pool word of the coordinate number at place k of `numbers`
+abbrev pub wordAt : List ℕ → List ℕ → ℕ → ℕ
+wordAt s numbers k = poolWord s (getD numbers k 0)
+
+-- the n coordinate numbers from place k on are there, and their pool words lie inside the body
+pub record Pooled (s numbers : List ℕ) (k n : ℕ) : Type 0 where
+  pub there : k + n ≤ length numbers
+  pub inside : (i : ℕ) → k ≤ i → i < k + n → 32 * getD numbers i 0 + 64 ≤ 8 * length s
+
+-- the submeshes, the mesh of a body, the meshes of a box, and those from a byte on that were read; none where they were refused
+abbrev pub submeshesRead : Found (List Submesh) → List Submesh
+submeshesRead v = valueOr ([], 0) v .0
+
+abbrev pub meshRead : List ℕ → Mesh
+meshRead s = valueOr (record { pool = []; vertices = []; submeshes = [] }, 0) (readMesh s) .0
+
+abbrev pub boxMeshes : List ℕ → ℕ → ℕ → ℕ → Verdict (List Mesh)
+boxMeshes s type body end = cond (eqb type meshType) (mapped (λ x. x .0 ∷ []) (readMesh (part s body end))) (accepted [])
+
+abbrev pub boxRead : List ℕ → ℕ → ℕ → ℕ → List Mesh
+boxRead s type body end = valueOr [] (boxMeshes s type body end)
+
+abbrev pub meshesFrom : List ℕ → ℕ → List Mesh
+meshesFrom s p = valueOr [] (readFrom s p)
+
+-- the counts and places of a mesh body
+pub record HeadOf (s : List ℕ) (h : Head) : Type 0 where
+  pub n-is : h .coordinates ≡ field s 0 32
+  pub m-is : h .vertices ≡ field s (32 * h .coordinates + 32) 32
+  pub w-is : h .width ≡ widthOf (h .coordinates)
+  pub first-is : h .first ≡ aligned (verticesAt (h .coordinates) + 5 * h .vertices * h .width) + 32
+  pub k-is : h .submeshes ≡ field s (aligned (verticesAt (h .coordinates) + 5 * h .vertices * h .width)) 32
+
+-- the numbers and words of some meshes fit into buffers of n and f elements
+pub record FillRoom (l : List Mesh) (to : Place) (n f : ℕ) : Type 0 where
+  pub numbers : to .base + length (drawnNumbers l) ≤ n
+  pub floats : to .off + length (drawnFloats l) ≤ f
+
+abbrev pub afterMeshes : Place → List Mesh → Place
+afterMeshes to l = record { base = to .base + length (drawnNumbers l); off = to .off + length (drawnFloats l) }
+
+abbrev pub recordWords : Record → List ℕ
+recordWords r = r .mesh ∷ r .texture ∷ r .mode ∷ r .first ∷ r .points ∷ []
+
+-- the records of some meshes fit into a buffer of n elements, and their numbers into words
+pub record RecordRoom (l : List Mesh) (to : RecordPlace) (n : ℕ) : Type 0 where
+  pub records : to .off + length (recordsFrom (to .mesh) (to .first) l) ≤ n
+  pub meshes : to .mesh + length l < 4294967296
+  pub points : to .first + pointTotal l < 4294967296
+
+abbrev pub afterRecords : RecordPlace → List Mesh → RecordPlace
+afterRecords to l =
+    record {
+      mesh = to .mesh + length l;
+      first = to .first + pointTotal l;
+      off = to .off + length (recordsFrom (to .mesh) (to .first) l);
+    }

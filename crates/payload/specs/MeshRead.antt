@@ -1,0 +1,90 @@
+-- Kind 2 as a program: the reading and the bit place after it, or the number of the first field in payload order that breaks a rule.
+use Prim.Native.Nat.{ℕ, zero, suc, _+_, _*_}
+use mathlib.Core.List.{List, [], _∷_}
+use mathlib.Core.Bool.{cond}
+use lib.Dec.{leb, eqb}
+use lib.ListN.{length}
+use Rattle.bits.specs.Verdict.{Verdict, accepted, declined, andThen}
+use Rattle.bits.specs.Field.{field}
+use Rattle.bits.specs.Number.{widthOf}
+use Rattle.bits.specs.Header.{Item, listEnd, box, headerAt}
+use Rattle.payload.specs.Mesh.{Submesh, Mesh}
+use Rattle.payload.specs.Run.{Found, complete, readRun, one, five}
+use Rattle.payload.specs.MeshSpells.{aligned, verticesAt, part, meshType}
+
+-- a count from low to high: 7 where it is not
+unfoldable pub inRange : {A : Type 0} → ℕ → ℕ → ℕ → Verdict A → Verdict A
+inRange low high n v = cond (leb low n) (cond (leb n high) v (declined 7)) (declined 7)
+
+-- n things, one after the other
+unfoldable pub many : {A : Type 0} → (ℕ → Found A) → ℕ → ℕ → Found (List A)
+many read zero p = accepted ([], p)
+many read (suc n) p = andThen (read p) (λ x. andThen (many read n (x .1)) (λ l. accepted (x .0 ∷ l .0, l .1)))
+
+-- ---- submeshes
+
+-- a submesh whose points were found
+abbrev pub submeshOf : List ℕ → ℕ → List ℕ × ℕ → Found Submesh
+submeshOf s p points = accepted (record { texture = field s p 8; mode = field s (p + 8) 8; points = points .0 }, points .1)
+
+unfoldable pub readSubmesh : List ℕ → ℕ → ℕ → ℕ → Found Submesh
+readSubmesh s w m p =
+    complete s (p + 48)
+    (inRange 1 128000 (field s (p + 16) 32)
+    (andThen (readRun s w m (field s (p + 16) 32) (p + 48) one) (submeshOf s p)))
+
+-- a submesh count, which is not 0, and the submeshes
+unfoldable pub readSubmeshes : List ℕ → ℕ → ℕ → ℕ → Found (List Submesh)
+readSubmeshes s w m p =
+    complete s (p + 32)
+    (inRange 1 4294967295 (field s p 32)
+    (many (readSubmesh s w m) (field s p 32) (p + 32)))
+
+-- ---- a mesh body. Its parts, the last first: after the vertices; after the vertex count; after the coordinate count
+
+-- n words from bit p on
+unfoldable pub readWords : List ℕ → ℕ → ℕ → List ℕ
+readWords s p zero = []
+readWords s p (suc n) = field s p 32 ∷ readWords s (p + 32) n
+
+abbrev pub meshOf : List ℕ → ℕ → List ℕ → List Submesh × ℕ → Found Mesh
+meshOf s n vertices l = accepted (record { pool = readWords s 32 n; vertices = vertices; submeshes = l .0 }, l .1)
+
+unfoldable pub afterVertices : List ℕ → ℕ → ℕ → List ℕ × ℕ → Found Mesh
+afterVertices s n m v = andThen (readSubmeshes s (widthOf m) m (aligned (v .1))) (meshOf s n (v .0))
+
+unfoldable pub afterCounts : List ℕ → ℕ → ℕ → Found Mesh
+afterCounts s n m = andThen (readRun s (widthOf n) n (5 * m) (verticesAt n) five) (afterVertices s n m)
+
+unfoldable pub afterPoolCount : List ℕ → ℕ → Found Mesh
+afterPoolCount s n =
+    complete s (verticesAt n)
+    (inRange 1 32000 (field s (32 * n + 32) 32)
+    (afterCounts s n (field s (32 * n + 32) 32)))
+
+unfoldable pub readMesh : List ℕ → Found Mesh
+readMesh s =
+    complete s 32
+    (inRange 1 10000 (field s 0 32)
+    (afterPoolCount s (field s 0 32)))
+
+-- ---- a list of boxes
+
+-- a mesh box gives its mesh, another is skipped; `rest` reads on from a place
+abbrev pub readItem : List ℕ → (ℕ → Verdict (List Mesh)) → Item → Verdict (List Mesh)
+readItem s rest listEnd = accepted []
+readItem s rest (box type body end) =
+    cond (eqb type meshType)
+    (andThen (readMesh (part s body end)) (λ x. andThen (rest end) (λ l. accepted (x .0 ∷ l))))
+    (rest end)
+
+-- each box is 8 bytes or more, so as many turns as there are bytes are enough
+unfoldable pub readBoxes : List ℕ → ℕ → ℕ → Verdict (List Mesh)
+readBoxes s zero p = accepted []
+readBoxes s (suc turns) p = andThen (headerAt s p) (readItem s (readBoxes s turns))
+
+unfoldable pub readFrom : List ℕ → ℕ → Verdict (List Mesh)
+readFrom s p = readBoxes s (length s) p
+
+abbrev pub readMeshes : List ℕ → Verdict (List Mesh)
+readMeshes s = readFrom s 0

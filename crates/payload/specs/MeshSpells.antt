@@ -1,0 +1,108 @@
+-- Kind 2: how a mesh list spells a payload, place by place. What is free is not mentioned.
+use Prim.Native.Nat.{ℕ, _+_, _-_, _*_, _/_, _≤_, _<_}
+use mathlib.Core.Path.{_≡_}
+use mathlib.Core.List.{List, [], _∷_}
+use lib.ListN.{length, getD, take, drop}
+use Rattle.bits.specs.Field.{field}
+use Rattle.bits.specs.Number.{widthOf}
+use Rattle.payload.specs.Mesh.{Submesh, Mesh}
+use Rattle.payload.specs.Run.{RunSpells, one, five}
+
+-- ---- submeshes
+
+-- texture (8 bits), mode (8), index count (32), then that many fields of width w, whose running number stays below m
+pub record SubmeshSpells (s : List ℕ) (w m p : ℕ) (x : Submesh) : Type 0 where
+  pub header : p + 48 ≤ 8 * length s
+  pub texture : field s p 8 ≡ x .texture
+  pub mode : field s (p + 8) 8 ≡ x .mode
+  pub count : field s (p + 16) 32 ≡ length (x .points)
+  pub some : 1 ≤ length (x .points)
+  pub most : length (x .points) ≤ 128000
+  pub run : RunSpells s w m (p + 48) one (x .points)
+
+-- the bits of a submesh
+abbrev pub submeshBits : ℕ → Submesh → ℕ
+submeshBits w x = 48 + length (x .points) * w
+
+-- things one after the other, each from where the one before ends
+abbrev pub EachSpells : {A : Type 0} → (A → ℕ) → (ℕ → A → Type 0) → ℕ → List A → Type 0
+EachSpells size Spells p [] = Unit {0}
+EachSpells size Spells p (a ∷ l) = Spells p a × EachSpells size Spells (p + size a) l
+
+abbrev pub sizes : {A : Type 0} → (A → ℕ) → List A → ℕ
+sizes size [] = 0
+sizes size (a ∷ l) = size a + sizes size l
+
+-- with no alignment between
+abbrev pub SubmeshesSpell : List ℕ → ℕ → ℕ → ℕ → List Submesh → Type 0
+SubmeshesSpell s w m p l = EachSpells (submeshBits w) (SubmeshSpells s w m) p l
+
+-- ---- a mesh body
+
+abbrev pub vertexCount : Mesh → ℕ
+vertexCount x = length (x .vertices) / 5
+
+-- the next byte boundary
+abbrev pub aligned : ℕ → ℕ
+aligned q = (q + 7) / 8 * 8
+
+-- where the vertices' fields start and end, and where the submesh count stands
+abbrev pub verticesAt : ℕ → ℕ
+verticesAt n = 32 * n + 64
+
+abbrev pub verticesEnd : Mesh → ℕ
+verticesEnd x = verticesAt (length (x .pool)) + length (x .vertices) * widthOf (length (x .pool))
+
+abbrev pub submeshesAt : Mesh → ℕ
+submeshesAt x = aligned (verticesEnd x)
+
+-- coordinate count n, n words, vertex count m; m * 5 fields of width w(n); free bits to the next byte boundary, submesh count, submeshes
+pub record MeshSpells (s : List ℕ) (x : Mesh) : Type 0 where
+  pub head : verticesAt (length (x .pool)) ≤ 8 * length s
+  pub pool-count : field s 0 32 ≡ length (x .pool)
+  pub pool-some : 1 ≤ length (x .pool)
+  pub pool-most : length (x .pool) ≤ 10000
+  pub pool-words : (i : ℕ) → i < length (x .pool) → field s (32 + i * 32) 32 ≡ getD (x .pool) i 0
+  pub fives : length (x .vertices) ≡ 5 * vertexCount x
+  pub vertex-count : field s (32 * length (x .pool) + 32) 32 ≡ vertexCount x
+  pub vertex-some : 1 ≤ vertexCount x
+  pub vertex-most : vertexCount x ≤ 32000
+  pub vertices-run : RunSpells s (widthOf (length (x .pool))) (length (x .pool)) (verticesAt (length (x .pool))) five (x .vertices)
+  pub tail : submeshesAt x + 32 ≤ 8 * length s
+  pub submesh-count : field s (submeshesAt x) 32 ≡ length (x .submeshes)
+  pub submesh-some : 1 ≤ length (x .submeshes)
+  pub submeshes-run : SubmeshesSpell s (widthOf (vertexCount x)) (vertexCount x) (submeshesAt x + 32) (x .submeshes)
+
+-- ---- a list of boxes
+
+-- the size of the box at byte p, which counts the whole box, and its type
+abbrev pub sizeAt : List ℕ → ℕ → ℕ
+sizeAt s p = field s (8 * p) 32
+
+abbrev pub typeAt : List ℕ → ℕ → ℕ
+typeAt s p = field s (8 * (p + 4)) 32
+
+-- 'mesh'
+abbrev pub meshType : ℕ
+meshType = 0x6D657368
+
+-- the bytes from a place up to another
+abbrev pub part : List ℕ → ℕ → ℕ → List ℕ
+part s from to = take (to - from) (drop from s)
+
+-- a whole box: a header of 8 bytes, a size of 8 or more that does not reach past the end
+pub record WholeBox (s : List ℕ) (p : ℕ) : Type 0 where
+  pub header : p + 8 ≤ length s
+  pub least : 8 ≤ sizeAt s p
+  pub most : p + sizeAt s p ≤ length s
+
+-- from byte p on: 0 to 7 free bytes, a box that holds a mesh, or a box of another type, which may hold anything
+pub data BoxesSpell (s : List ℕ) : ℕ → List Mesh → Type 0 where
+  ends : {p : ℕ} → p ≤ length s → length s < p + 8 → BoxesSpell s p []
+  holds : {p : ℕ} {x : Mesh} {l : List Mesh} → WholeBox s p → typeAt s p ≡ meshType → MeshSpells (part s (p + 8) (p + sizeAt s p)) x
+      → BoxesSpell s (p + sizeAt s p) l → BoxesSpell s p (x ∷ l)
+  skips : {p : ℕ} {l : List Mesh} → WholeBox s p → (typeAt s p ≡ meshType → ⊥) → BoxesSpell s (p + sizeAt s p) l → BoxesSpell s p l
+
+-- the list of meshes l spells the payload s
+abbrev pub MeshesSpell : List Mesh → List ℕ → Type 0
+MeshesSpell l s = BoxesSpell s 0 l

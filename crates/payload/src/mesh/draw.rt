@@ -1,0 +1,488 @@
+// The filling pass over a mesh list that was measured: nothing is tested again, and nothing can fail. Vertices' coordinate numbers go to
+// `numbers` first; points read them back from there, and their words from the payload, so that no memory is needed beside the buffers.
+use super::CoordinateNumber;
+use super::MESH;
+use super::VertexNumber;
+use super::fill_vertices;
+use super::measure::Measured;
+use super::measure::MeshListSize;
+use super::measure::measure_meshes;
+use super::mesh_head;
+use super::one_field;
+use super::three_fields;
+use super::word;
+use bits::BoxHeader;
+use bits::ByteCursor;
+ghost use mathlib.Core.Path.{_≡_};
+ghost use mathlib.Core.List.{[], _∷_};
+ghost use Prim.Native.Nat.{_+_, _*_, _≤_, _<_};
+ghost use lib.ListN.{length, getD};
+ghost use lib.Seq.{sets};
+ghost use Rattle.bits.specs.Verdict.{needs, mapped};
+ghost use Rattle.bits.specs.Number.{widthOf};
+ghost use Rattle.payload.specs.Payload.{limited};
+ghost use Rattle.payload.specs.Run.{readRun, one};
+ghost use Rattle.payload.specs.MeshRead.{many, readSubmesh, readMesh, readMeshes};
+ghost use Rattle.payload.specs.MeshDrawing.{pointWords, runWords, submeshWords, submeshRecords, pointCount, recordsFrom, drawnNumbers, drawnFloats, drawnRecords};
+ghost use Rattle.payload.specs.Internal.{WasRead, runNumbers, poolWord, wordAt, Pooled, submeshesRead, meshRead, boxMeshes, boxRead, meshesFrom, FillRoom, afterMeshes, recordWords, RecordRoom, afterRecords};
+ghost use Rattle.payload.specs.Fill.{front};
+ghost use Rattle.payload.specs.Meshes.{drawnInto, meshesSays, meshesAnswer, recordsSays, recordsAnswer};
+
+// The pool word of a coordinate number.
+fn pool_word(s: &[u8], c: CoordinateNumber) -> u32
+    requires { ⌜ (length (now s) ≤ 67108864) × (32 * c .0 + 64 ≤ 8 * length (now s)) ⌝ }
+    ensures { λ r. ⌜ r ≡ poolWord (now (s .entry)) (c .0) ⌝ }
+{
+    word(s, 4 + 4 * (c.0 as usize))
+}
+
+// The pool word of the coordinate number at place k of numbers.
+fn word_at(s: &[u8], numbers: &[u16], k: usize) -> u32
+    requires { ⌜ (length (now s) ≤ 67108864) × (k < length (now numbers)) × (32 * getD (now numbers) k 0 + 64 ≤ 8 * length (now s)) ⌝ }
+    ensures { λ r. ⌜ r ≡ wordAt (now (s .entry)) (now (numbers .entry)) k ⌝ }
+{
+    pool_word(s, CoordinateNumber(numbers[k]))
+}
+
+// Stores the five words of a vertex. The vertices' coordinate numbers stand in numbers from base on.
+fn draw_point(
+    s: &[u8],
+    numbers: &[u16],
+    base: usize,
+    v: VertexNumber,
+    words: &mut [u32],
+    off: usize,
+)
+    requires { ⌜ (length (now s) ≤ 67108864) × (off + 5 ≤ length (now words)) × Pooled (now s) (now numbers) (base + 5 * v .0) 5 ⌝ }
+    ensures { λ _. ⌜ now (words .exit) ≡ sets (now (words .entry)) off (pointWords (wordAt (now (s .entry)) (now (numbers .entry))) (base + 5 * v .0)) ⌝ }
+{
+    let k = base + 5 * (v.0 as usize);
+    words[off] = word_at(s, numbers, k);
+    words[off + 1] = word_at(s, numbers, k + 1);
+    words[off + 2] = word_at(s, numbers, k + 2);
+    words[off + 3] = word_at(s, numbers, k + 3);
+    words[off + 4] = word_at(s, numbers, k + 4);
+}
+
+// Stores the words of the rest of a run, which is known to be read whole, point by point.
+fn draw_run_left(
+    s: &[u8],
+    p: usize,
+    w: usize,
+    m: u32,
+    count: u32,
+    from: VertexNumber,
+    numbers: &[u16],
+    base: usize,
+    words: &mut [u32],
+    off: usize,
+)
+    requires { ⌜ (length (now s) ≤ 67108864) × (w ≤ 17) × (m ≤ 65536) × (64 ≤ p) × (off + 5 * count ≤ length (now words)) × Pooled (now s) (now numbers) base (5 * m) ⌝ }
+    requires { ⌜ WasRead (readRun (now s) w m count p (from .0 ∷ [])) ⌝ }
+    ensures { λ _. ⌜ now (words .exit) ≡ sets (now (words .entry)) off (runWords (wordAt (now (s .entry)) (now (numbers .entry))) base (runNumbers (readRun (now (s .entry)) w m count p (from .0 ∷ [])))) ⌝ }
+{
+    let mut bit = p;
+    let mut last = from.0;
+    let mut left = count;
+    let mut o = off;
+    while 0 < left {
+        last = bits::stepped(last as u32, one_field(s, bit, w)) as u16;
+        draw_point(s, numbers, base, VertexNumber(last), words, o);
+        o += 5;
+        bit += w;
+        left -= 1;
+    }
+}
+
+// Stores the words of three vertices.
+fn draw_three(
+    s: &[u8],
+    numbers: &[u16],
+    base: usize,
+    a: VertexNumber,
+    b: VertexNumber,
+    c: VertexNumber,
+    words: &mut [u32],
+    off: usize,
+)
+    requires { ⌜ (length (now s) ≤ 67108864) × (off + 15 ≤ length (now words)) × Pooled (now s) (now numbers) (base + 5 * a .0) 5 × Pooled (now s) (now numbers) (base + 5 * b .0) 5 × Pooled (now s) (now numbers) (base + 5 * c .0) 5 ⌝ }
+    ensures { λ _. ⌜ now (words .exit) ≡ sets (now (words .entry)) off (runWords (wordAt (now (s .entry)) (now (numbers .entry))) base (a .0 ∷ b .0 ∷ c .0 ∷ [])) ⌝ }
+{
+    draw_point(s, numbers, base, a, words, off);
+    draw_point(s, numbers, base, b, words, off + 5);
+    draw_point(s, numbers, base, c, words, off + 10);
+}
+
+// Stores the words of a run of points that is known to be read whole. The m vertices' coordinate numbers stand in numbers from base on.
+fn draw_run(
+    s: &[u8],
+    p: usize,
+    w: usize,
+    m: u32,
+    count: u32,
+    numbers: &[u16],
+    base: usize,
+    words: &mut [u32],
+    off: usize,
+)
+    requires { ⌜ (length (now s) ≤ 67108864) × (w ≤ 17) × (m ≤ 65536) × (64 ≤ p) × (off + 5 * count ≤ length (now words)) × Pooled (now s) (now numbers) base (5 * m) ⌝ }
+    requires { ⌜ WasRead (readRun (now s) w m count p one) ⌝ }
+    ensures { λ _. ⌜ now (words .exit) ≡ sets (now (words .entry)) off (runWords (wordAt (now (s .entry)) (now (numbers .entry))) base (runNumbers (readRun (now (s .entry)) w m count p one))) ⌝ }
+{
+    let mut bit = p;
+    let mut last: u16 = 0;
+    let mut left = count;
+    let mut o = off;
+    while 3 <= left {
+        let f = three_fields(s, bit, w);
+        let a = bits::stepped(last as u32, f.a) as u16;
+        let b = bits::stepped(a as u32, f.b) as u16;
+        last = bits::stepped(b as u32, f.c) as u16;
+        draw_three(
+            s,
+            numbers,
+            base,
+            VertexNumber(a),
+            VertexNumber(b),
+            VertexNumber(last),
+            words,
+            o,
+        );
+        o += 15;
+        bit += 3 * w;
+        left -= 3;
+    }
+    draw_run_left(
+        s,
+        bit,
+        w,
+        m,
+        left,
+        VertexNumber(last),
+        numbers,
+        base,
+        words,
+        o,
+    );
+}
+
+// Stores the words of some submeshes that are known to be read whole, and returns the place after them.
+fn draw_submeshes(
+    s: &[u8],
+    p: usize,
+    m: u32,
+    count: u32,
+    numbers: &[u16],
+    base: usize,
+    words: &mut [u32],
+    off: usize,
+) -> usize
+    requires { ⌜ (length (now s) ≤ 67108864) × (m ≤ 65536) × (64 ≤ p) × (off + 5 * pointCount (submeshesRead (many (readSubmesh (now s) (widthOf m) m) count p)) ≤ length (now words)) × Pooled (now s) (now numbers) base (5 * m) ⌝ }
+    requires { ⌜ WasRead (many (readSubmesh (now s) (widthOf m) m) count p) ⌝ }
+    ensures { λ r. ⌜ r ≡ off + 5 * pointCount (submeshesRead (many (readSubmesh (now (s .entry)) (widthOf m) m) count p)) ⌝ }
+    ensures { λ _. ⌜ now (words .exit) ≡ sets (now (words .entry)) off (submeshWords (wordAt (now (s .entry)) (now (numbers .entry))) base (submeshesRead (many (readSubmesh (now (s .entry)) (widthOf m) m) count p))) ⌝ }
+{
+    let w = bits::bit_width(m) as usize;
+    let mut bit = p;
+    let mut left = count;
+    let mut o = off;
+    while 0 < left {
+        let n = one_field(s, bit + 16, 32);
+        draw_run(s, bit + 48, w, m, n, numbers, base, words, o);
+        o += 5 * (n as usize);
+        bit += 48 + (n as usize) * w;
+        left -= 1;
+    }
+    o
+}
+
+// Where the next mesh's coordinate numbers and words go.
+struct Place {
+    base: usize,
+    off: usize,
+}
+
+// Stores a mesh that is known to be read whole, and returns the places after it.
+fn draw_mesh(s: &[u8], numbers: &mut [u16], words: &mut [u32], to: Place) -> Place
+    requires { ⌜ (length (now s) ≤ 67108864) × WasRead (readMesh (now s)) × FillRoom (meshRead (now s) ∷ []) to (length (now numbers)) (length (now words)) ⌝ }
+    ensures { λ r. ⌜ r ≡ afterMeshes to (meshRead (now (s .entry)) ∷ []) ⌝ }
+    ensures { λ _. ⌜ now (numbers .exit) ≡ sets (now (numbers .entry)) (to .base) (drawnNumbers (meshRead (now (s .entry)) ∷ [])) ⌝ }
+    ensures { λ _. ⌜ now (words .exit) ≡ sets (now (words .entry)) (to .off) (drawnFloats (meshRead (now (s .entry)) ∷ [])) ⌝ }
+{
+    let h = mesh_head(s);
+    let base = to.base;
+    let off = to.off;
+    let m = h.vertices;
+    fill_vertices(
+        s,
+        32 * (h.coordinates as usize) + 64,
+        h.width,
+        h.coordinates,
+        m,
+        numbers,
+        base,
+    );
+    let end = draw_submeshes(s, h.first, m, h.submeshes, &numbers[..], base, words, off);
+    Place {
+        base: base + 5 * (m as usize),
+        off: end,
+    }
+}
+
+// Stores the mesh of a box, and returns the places after it; a box of another type is skipped.
+fn draw_box(
+    s: &[u8],
+    fourcc: u32,
+    body: usize,
+    end: usize,
+    numbers: &mut [u16],
+    words: &mut [u32],
+    to: Place,
+) -> Place
+    requires { ⌜ (length (now s) ≤ 67108864) × (body ≤ end) × (end ≤ length (now s)) × WasRead (boxMeshes (now s) fourcc body end) ⌝ }
+    requires { ⌜ FillRoom (boxRead (now s) fourcc body end) to (length (now numbers)) (length (now words)) ⌝ }
+    ensures { λ r. ⌜ r ≡ afterMeshes to (boxRead (now (s .entry)) fourcc body end) ⌝ }
+    ensures { λ _. ⌜ now (numbers .exit) ≡ sets (now (numbers .entry)) (to .base) (drawnNumbers (boxRead (now (s .entry)) fourcc body end)) ⌝ }
+    ensures { λ _. ⌜ now (words .exit) ≡ sets (now (words .entry)) (to .off) (drawnFloats (boxRead (now (s .entry)) fourcc body end)) ⌝ }
+{
+    if fourcc != MESH {
+        return to;
+    }
+    draw_mesh(&s[body..end], numbers, words, to)
+}
+
+// Stores the meshes of a list of boxes that is known to be read whole.
+fn draw_boxes(s: &[u8], numbers: &mut [u16], words: &mut [u32])
+    requires { ⌜ (length (now s) ≤ 67108864) × WasRead (readMeshes (now s)) ⌝ }
+    requires { ⌜ (length (drawnNumbers (meshesFrom (now s) 0)) ≤ length (now numbers)) × (length (drawnFloats (meshesFrom (now s) 0)) ≤ length (now words)) ⌝ }
+    ensures { λ _. ⌜ now (numbers .exit) ≡ sets (now (numbers .entry)) 0 (drawnNumbers (meshesFrom (now (s .entry)) 0)) ⌝ }
+    ensures { λ _. ⌜ now (words .exit) ≡ sets (now (words .entry)) 0 (drawnFloats (meshesFrom (now (s .entry)) 0)) ⌝ }
+{
+    let mut at: usize = 0;
+    let mut to = Place { base: 0, off: 0 };
+    loop {
+        match bits::box_header(s, ByteCursor { at }) {
+            BoxHeader::ListEnd => {
+                return;
+            }
+            // A list that was read has none.
+            BoxHeader::BadSize => {
+                return;
+            }
+            BoxHeader::Header { fourcc, body, end } => {
+                to = draw_box(s, fourcc, body, end, numbers, words, to);
+                at = end;
+            }
+        }
+    }
+}
+
+// A submesh's record: its mesh, its texture and mode, its first point among all, and how many points it has.
+struct Record {
+    mesh: u32,
+    texture: u32,
+    mode: u32,
+    first: u32,
+    points: u32,
+}
+
+fn put_record(out: &mut [u32], at: usize, r: Record)
+    requires { ⌜ at + 5 ≤ length (now out) ⌝ }
+    ensures { λ _. ⌜ now (out .exit) ≡ sets (now (out .entry)) at (recordWords r) ⌝ }
+{
+    out[at] = r.mesh;
+    out[at + 1] = r.texture;
+    out[at + 2] = r.mode;
+    out[at + 3] = r.first;
+    out[at + 4] = r.points;
+}
+
+// The next record's mesh and first point, and where it goes.
+struct RecordPlace {
+    mesh: u32,
+    first: u32,
+    off: usize,
+}
+
+// Stores the records of some submeshes that are known to be read whole, and returns the first point after them.
+fn fill_records(s: &[u8], p: usize, m: u32, count: u32, records: &mut [u32], to: RecordPlace) -> u32
+    requires { ⌜ (length (now s) ≤ 67108864) × (m ≤ 65536) × (64 ≤ p) × (to .off + 5 * count ≤ length (now records)) × (to .first + pointCount (submeshesRead (many (readSubmesh (now s) (widthOf m) m) count p)) < 4294967296) ⌝ }
+    requires { ⌜ WasRead (many (readSubmesh (now s) (widthOf m) m) count p) ⌝ }
+    ensures { λ r. ⌜ r ≡ to .first + pointCount (submeshesRead (many (readSubmesh (now (s .entry)) (widthOf m) m) count p)) ⌝ }
+    ensures { λ _. ⌜ now (records .exit) ≡ sets (now (records .entry)) (to .off) (submeshRecords (to .mesh) (to .first) (submeshesRead (many (readSubmesh (now (s .entry)) (widthOf m) m) count p))) ⌝ }
+{
+    let w = bits::bit_width(m) as usize;
+    let mesh = to.mesh;
+    let mut bit = p;
+    let mut left = count;
+    let mut first = to.first;
+    let mut o = to.off;
+    while 0 < left {
+        let texture = one_field(s, bit, 8);
+        let mode = one_field(s, bit + 8, 8);
+        let points = one_field(s, bit + 16, 32);
+        put_record(
+            records,
+            o,
+            Record {
+                mesh,
+                texture,
+                mode,
+                first,
+                points,
+            },
+        );
+        first += points;
+        o += 5;
+        bit += 48 + (points as usize) * w;
+        left -= 1;
+    }
+    first
+}
+
+// Stores the records of a mesh that is known to be read whole, and returns the place of the next one.
+fn record_mesh(s: &[u8], records: &mut [u32], to: RecordPlace) -> RecordPlace
+    requires { ⌜ (length (now s) ≤ 67108864) × WasRead (readMesh (now s)) × RecordRoom (meshRead (now s) ∷ []) to (length (now records)) ⌝ }
+    ensures { λ r. ⌜ r ≡ afterRecords to (meshRead (now (s .entry)) ∷ []) ⌝ }
+    ensures { λ _. ⌜ now (records .exit) ≡ sets (now (records .entry)) (to .off) (recordsFrom (to .mesh) (to .first) (meshRead (now (s .entry)) ∷ [])) ⌝ }
+{
+    let h = mesh_head(s);
+    let first = fill_records(s, h.first, h.vertices, h.submeshes, records, to);
+    RecordPlace {
+        mesh: to.mesh + 1,
+        first,
+        off: to.off + 5 * (h.submeshes as usize),
+    }
+}
+
+// Stores the records of a box, and returns the place of the next one; a box of another type has none.
+fn record_box(
+    s: &[u8],
+    fourcc: u32,
+    body: usize,
+    end: usize,
+    records: &mut [u32],
+    to: RecordPlace,
+) -> RecordPlace
+    requires { ⌜ (length (now s) ≤ 67108864) × (body ≤ end) × (end ≤ length (now s)) × WasRead (boxMeshes (now s) fourcc body end) ⌝ }
+    requires { ⌜ RecordRoom (boxRead (now s) fourcc body end) to (length (now records)) ⌝ }
+    ensures { λ r. ⌜ r ≡ afterRecords to (boxRead (now (s .entry)) fourcc body end) ⌝ }
+    ensures { λ _. ⌜ now (records .exit) ≡ sets (now (records .entry)) (to .off) (recordsFrom (to .mesh) (to .first) (boxRead (now (s .entry)) fourcc body end)) ⌝ }
+{
+    if fourcc != MESH {
+        return to;
+    }
+    record_mesh(&s[body..end], records, to)
+}
+
+// Stores the records of a list of boxes that is known to be read whole.
+fn record_boxes(s: &[u8], records: &mut [u32])
+    requires { ⌜ (length (now s) ≤ 67108864) × WasRead (readMeshes (now s)) × (length (drawnRecords (meshesFrom (now s) 0)) ≤ length (now records)) ⌝ }
+    ensures { λ _. ⌜ now (records .exit) ≡ sets (now (records .entry)) 0 (drawnRecords (meshesFrom (now (s .entry)) 0)) ⌝ }
+{
+    let mut at: usize = 0;
+    let mut to = RecordPlace {
+        mesh: 0,
+        first: 0,
+        off: 0,
+    };
+    loop {
+        match bits::box_header(s, ByteCursor { at }) {
+            BoxHeader::ListEnd => {
+                return;
+            }
+            // A list that was read has none.
+            BoxHeader::BadSize => {
+                return;
+            }
+            BoxHeader::Header { fourcc, body, end } => {
+                to = record_box(s, fourcc, body, end, records, to);
+                at = end;
+            }
+        }
+    }
+}
+
+// What drawing answers: the list's size, or the lengths that the three buffers need, or the number of a refusal.
+pub enum MeshesAnswer {
+    Drawn(MeshListSize),
+    Needs {
+        numbers: usize,
+        floats: usize,
+        records: usize,
+    },
+    Declined(u8),
+}
+
+fn too_short(n: MeshListSize) -> MeshesAnswer
+    ensures { λ r. ⌜ meshesSays r ≡ needs (n .numbers ∷ n .floats ∷ n .records ∷ []) ⌝ }
+{
+    MeshesAnswer::Needs {
+        numbers: n.numbers,
+        floats: n.floats,
+        records: n.records,
+    }
+}
+
+// Draws a mesh list: 2, then 3, 6, 7 and 8 in payload order, then 12. Unless it answers `Drawn`, the buffers stay as they were.
+pub fn parse_meshes(
+    payload: &[u8],
+    numbers: &mut [u16],
+    floats: &mut [u32],
+    records: &mut [u32],
+) -> MeshesAnswer
+    ensures { λ r. ⌜ meshesSays r ≡ meshesAnswer (now (payload .entry)) (length (now (numbers .entry))) (length (now (floats .entry))) (length (now (records .entry))) ⌝ }
+    ensures { λ _. ⌜ now (numbers .exit) ≡ drawnInto drawnNumbers (limited (now (payload .entry)) (readMeshes (now (payload .entry)))) (length (now (numbers .entry))) (length (now (floats .entry))) (length (now (records .entry))) (now (numbers .entry)) ⌝ }
+    ensures { λ _. ⌜ now (floats .exit) ≡ drawnInto drawnFloats (limited (now (payload .entry)) (readMeshes (now (payload .entry)))) (length (now (numbers .entry))) (length (now (floats .entry))) (length (now (records .entry))) (now (floats .entry)) ⌝ }
+    ensures { λ _. ⌜ now (records .exit) ≡ drawnInto drawnRecords (limited (now (payload .entry)) (readMeshes (now (payload .entry)))) (length (now (numbers .entry))) (length (now (floats .entry))) (length (now (records .entry))) (now (records .entry)) ⌝ }
+{
+    match measure_meshes(payload) {
+        Measured::Declined(k) => MeshesAnswer::Declined(k),
+        Measured::Size(n) => {
+            if numbers.len() < n.numbers {
+                return too_short(n);
+            }
+            if floats.len() < n.floats {
+                return too_short(n);
+            }
+            if records.len() < n.records {
+                return too_short(n);
+            }
+            draw_boxes(payload, numbers, floats);
+            record_boxes(payload, records);
+            MeshesAnswer::Drawn(n)
+        }
+    }
+}
+
+// What the records alone answer: the list's counts, or the length that the buffer needs, or the number of a refusal.
+pub enum RecordsAnswer {
+    Counts {
+        meshes: usize,
+        submeshes: usize,
+        points: usize,
+    },
+    Needs(usize),
+    Declined(u8),
+}
+
+// The records of a mesh list, without its points: 2, then 3, 6, 7 and 8 in payload order, then 12. Unless it answers `Counts`, the buffer stays as it was.
+pub fn mesh_records(payload: &[u8], records: &mut [u32]) -> RecordsAnswer
+    ensures { λ r. ⌜ recordsSays r ≡ recordsAnswer (now (payload .entry)) (length (now (records .entry))) ⌝ }
+    ensures { λ _. ⌜ now (records .exit) ≡ front (mapped drawnRecords (limited (now (payload .entry)) (readMeshes (now (payload .entry))))) (now (records .entry)) ⌝ }
+{
+    match measure_meshes(payload) {
+        Measured::Declined(k) => RecordsAnswer::Declined(k),
+        Measured::Size(n) => {
+            if records.len() < n.records {
+                return RecordsAnswer::Needs(n.records);
+            }
+            record_boxes(payload, records);
+            RecordsAnswer::Counts {
+                meshes: n.meshes,
+                submeshes: n.submeshes,
+                points: n.points,
+            }
+        }
+    }
+}

@@ -1,0 +1,397 @@
+// The validating pass over a mesh list: it answers every refusal but 12, and how long the drawing is, and touches nothing.
+use super::Five;
+use super::MESH;
+use super::kept;
+use super::one_field;
+use super::step_five;
+use super::three_fields;
+use super::word;
+use bits::BoxHeader;
+use bits::ByteCursor;
+ghost use mathlib.Core.Path.{_≡_};
+ghost use Prim.Native.Nat.{_+_, _*_, _≤_, _<_};
+ghost use mathlib.Core.List.{[], _∷_};
+ghost use lib.ListN.{length};
+ghost use Rattle.bits.specs.Verdict.{mapped};
+ghost use Rattle.payload.specs.Payload.{limited};
+ghost use Rattle.payload.specs.Run.{readRun, one, five};
+ghost use Rattle.payload.specs.MeshRead.{many, readSubmesh, readSubmeshes, afterCounts, readMesh, readMeshes};
+ghost use Rattle.payload.specs.Internal.{queue, placeOf, pointsEnd, submeshesSize, bodySize, Room, withBody, boxTotals, noTotals, totalsOf, runSays, submeshSays, submeshesSays, bodySays, totalsSays};
+ghost use Rattle.payload.specs.Meshes.{listSize, measuredSays};
+
+// How much there is of a mesh list: its meshes, submeshes and points, and the lengths of its drawing's three lists.
+pub struct MeshListSize {
+    pub meshes: usize,
+    pub submeshes: usize,
+    pub points: usize,
+    pub numbers: usize,
+    pub floats: usize,
+    pub records: usize,
+}
+
+// The size of a mesh list, or the number of a refusal.
+pub enum Measured {
+    Size(MeshListSize),
+    Declined(u8),
+}
+
+// The bit place after a run, or the number of a refusal.
+enum RunEnd {
+    At(usize),
+    Declined(u8),
+}
+
+// The rest of a run of vertex numbers, field by field.
+fn check_points_left(s: &[u8], p: usize, w: usize, limit: u32, count: u32, from: u32) -> RunEnd
+    requires { ⌜ (length (now s) ≤ 67108864) × (w ≤ 17) × (limit ≤ 65536) × (64 ≤ p) × (p ≤ 8 * length (now s)) ⌝ }
+    ensures { λ r. ⌜ runSays r ≡ mapped placeOf (readRun (now (s .entry)) w limit count p (from ∷ [])) ⌝ }
+{
+    let end = s.len() * 8;
+    let mut bit = p;
+    let mut last = from;
+    let mut left = count;
+    while 0 < left {
+        if end - bit < w {
+            return RunEnd::Declined(3);
+        }
+        let next = bits::stepped(last, one_field(s, bit, w));
+        if limit as u64 <= next {
+            return RunEnd::Declined(8);
+        }
+        last = next as u32;
+        bit += w;
+        left -= 1;
+    }
+    RunEnd::At(bit)
+}
+
+// A run of vertex numbers: one running number, three fields to a window.
+fn check_points(s: &[u8], p: usize, w: usize, limit: u32, count: u32) -> RunEnd
+    requires { ⌜ (length (now s) ≤ 67108864) × (w ≤ 17) × (limit ≤ 65536) × (64 ≤ p) × (p ≤ 8 * length (now s)) ⌝ }
+    ensures { λ r. ⌜ runSays r ≡ mapped placeOf (readRun (now (s .entry)) w limit count p one) ⌝ }
+{
+    let end = s.len() * 8;
+    let group = 3 * w;
+    let mut bit = p;
+    let mut last: u32 = 0;
+    let mut left = count;
+    while 3 <= left {
+        if end - bit < group {
+            return check_points_left(s, bit, w, limit, left, last);
+        }
+        let f = three_fields(s, bit, w);
+        let a = bits::stepped(last, f.a);
+        if limit as u64 <= a {
+            return RunEnd::Declined(8);
+        }
+        let b = bits::stepped(a as u32, f.b);
+        if limit as u64 <= b {
+            return RunEnd::Declined(8);
+        }
+        let c = bits::stepped(b as u32, f.c);
+        if limit as u64 <= c {
+            return RunEnd::Declined(8);
+        }
+        last = c as u32;
+        bit += group;
+        left -= 3;
+    }
+    check_points_left(s, bit, w, limit, left, last)
+}
+
+// The rest of a run of coordinate numbers, field by field.
+fn check_vertices_left(s: &[u8], p: usize, w: usize, limit: u32, count: u32, from: Five) -> RunEnd
+    requires { ⌜ (length (now s) ≤ 67108864) × (w ≤ 17) × (limit ≤ 65536) × (64 ≤ p) × (p ≤ 8 * length (now s)) ⌝ }
+    ensures { λ r. ⌜ runSays r ≡ mapped placeOf (readRun (now (s .entry)) w limit count p (queue from)) ⌝ }
+{
+    let end = s.len() * 8;
+    let mut bit = p;
+    let mut a = from.a;
+    let mut b = from.b;
+    let mut c = from.c;
+    let mut d = from.d;
+    let mut e = from.e;
+    let mut left = count;
+    while 0 < left {
+        if end - bit < w {
+            return RunEnd::Declined(3);
+        }
+        let next = bits::stepped(a, one_field(s, bit, w));
+        if limit as u64 <= next {
+            return RunEnd::Declined(8);
+        }
+        a = b;
+        b = c;
+        c = d;
+        d = e;
+        e = next as u32;
+        bit += w;
+        left -= 1;
+    }
+    RunEnd::At(bit)
+}
+
+// The coordinate numbers of count vertices: five running numbers, which take turns.
+fn check_vertices(s: &[u8], p: usize, w: usize, limit: u32, count: u32) -> RunEnd
+    requires { ⌜ (length (now s) ≤ 67108864) × (w ≤ 17) × (limit ≤ 65536) × (count ≤ 65536) × (64 ≤ p) × (p ≤ 8 * length (now s)) ⌝ }
+    ensures { λ r. ⌜ runSays r ≡ mapped placeOf (readRun (now (s .entry)) w limit (5 * count) p five) ⌝ }
+{
+    let end = s.len() * 8;
+    let group = 5 * w;
+    let mut bit = p;
+    let mut v = Five {
+        a: 0,
+        b: 0,
+        c: 0,
+        d: 0,
+        e: 0,
+    };
+    let mut left = count;
+    while 0 < left {
+        if end - bit < group {
+            return check_vertices_left(s, bit, w, limit, 5 * left, v);
+        }
+        let next = step_five(s, bit, w, v);
+        if limit as u64 <= next.a {
+            return RunEnd::Declined(8);
+        }
+        if limit as u64 <= next.b {
+            return RunEnd::Declined(8);
+        }
+        if limit as u64 <= next.c {
+            return RunEnd::Declined(8);
+        }
+        if limit as u64 <= next.d {
+            return RunEnd::Declined(8);
+        }
+        if limit as u64 <= next.e {
+            return RunEnd::Declined(8);
+        }
+        v = kept(next);
+        bit += group;
+        left -= 1;
+    }
+    RunEnd::At(bit)
+}
+
+// A submesh's point count and the bit place after it, or the number of a refusal.
+enum SubmeshEnd {
+    At(u32, usize),
+    Declined(u8),
+}
+
+fn check_submesh(s: &[u8], p: usize, w: usize, m: u32) -> SubmeshEnd
+    requires { ⌜ (length (now s) ≤ 67108864) × (w ≤ 17) × (m ≤ 65536) × (64 ≤ p) × (p ≤ 8 * length (now s)) ⌝ }
+    ensures { λ r. ⌜ submeshSays r ≡ mapped pointsEnd (readSubmesh (now (s .entry)) w m p) ⌝ }
+{
+    let end = s.len() * 8;
+    if end - p < 48 {
+        return SubmeshEnd::Declined(3);
+    }
+    let count = one_field(s, p + 16, 32);
+    if count < 1 {
+        return SubmeshEnd::Declined(7);
+    }
+    if 128_000 < count {
+        return SubmeshEnd::Declined(7);
+    }
+    match check_points(s, p + 48, w, m, count) {
+        RunEnd::At(q) => SubmeshEnd::At(count, q),
+        RunEnd::Declined(k) => SubmeshEnd::Declined(k),
+    }
+}
+
+// How many submeshes there are, and how many points they have in all, or the number of a refusal.
+enum SubmeshesSize {
+    Size(u32, usize),
+    Declined(u8),
+}
+
+// The submeshes from bit p on, of which there are count.
+fn check_submeshes(s: &[u8], p: usize, w: usize, m: u32, count: u32) -> SubmeshesSize
+    requires { ⌜ (length (now s) ≤ 67108864) × (w ≤ 17) × (1 ≤ w) × (m ≤ 65536) × (64 ≤ p) × (p ≤ 8 * length (now s)) ⌝ }
+    ensures { λ r. ⌜ submeshesSays r ≡ mapped submeshesSize (many (readSubmesh (now (s .entry)) w m) count p) ⌝ }
+{
+    let mut bit = p;
+    let mut points: usize = 0;
+    let mut left = count;
+    while 0 < left {
+        match check_submesh(s, bit, w, m) {
+            SubmeshEnd::Declined(k) => {
+                return SubmeshesSize::Declined(k);
+            }
+            SubmeshEnd::At(n, q) => {
+                points += n as usize;
+                bit = q;
+            }
+        }
+        left -= 1;
+    }
+    SubmeshesSize::Size(count, points)
+}
+
+// The submesh count at bit p, and the submeshes.
+fn check_counted(s: &[u8], p: usize, w: usize, m: u32) -> SubmeshesSize
+    requires { ⌜ (length (now s) ≤ 67108864) × (w ≤ 17) × (1 ≤ w) × (m ≤ 65536) × (64 ≤ p) × (p ≤ 8 * length (now s)) ⌝ }
+    ensures { λ r. ⌜ submeshesSays r ≡ mapped submeshesSize (readSubmeshes (now (s .entry)) w m p) ⌝ }
+{
+    let end = s.len() * 8;
+    if end - p < 32 {
+        return SubmeshesSize::Declined(3);
+    }
+    let count = one_field(s, p, 32);
+    if count < 1 {
+        return SubmeshesSize::Declined(7);
+    }
+    check_submeshes(s, p + 32, w, m, count)
+}
+
+// The vertices, submeshes and points of a mesh body, or the number of a refusal.
+enum BodySize {
+    Size(u32, u32, usize),
+    Declined(u8),
+}
+
+// From the vertices on, of which there are m, over n coordinates.
+fn check_vertices_on(s: &[u8], n: u32, m: u32) -> BodySize
+    requires { ⌜ (length (now s) ≤ 67108864) × (1 ≤ n) × (n ≤ 10000) × (1 ≤ m) × (m ≤ 32000) × (32 * n + 64 ≤ 8 * length (now s)) ⌝ }
+    ensures { λ r. ⌜ bodySays r ≡ mapped bodySize (afterCounts (now (s .entry)) n m) ⌝ }
+{
+    let start = 32 * (n as usize) + 64;
+    let w = bits::bit_width(n) as usize;
+    match check_vertices(s, start, w, n, m) {
+        RunEnd::Declined(k) => BodySize::Declined(k),
+        RunEnd::At(q) => {
+            let v = bits::bit_width(m) as usize;
+            match check_counted(s, (q + 7) / 8 * 8, v, m) {
+                SubmeshesSize::Declined(k) => BodySize::Declined(k),
+                SubmeshesSize::Size(count, points) => BodySize::Size(m, count, points),
+            }
+        }
+    }
+}
+
+// A mesh body.
+fn check_mesh(s: &[u8]) -> BodySize
+    requires { ⌜ length (now s) ≤ 67108864 ⌝ }
+    ensures { λ r. ⌜ bodySays r ≡ mapped bodySize (readMesh (now (s .entry))) ⌝ }
+{
+    let end = s.len() * 8;
+    if end < 32 {
+        return BodySize::Declined(3);
+    }
+    let n = word(s, 0);
+    if n < 1 {
+        return BodySize::Declined(7);
+    }
+    if 10_000 < n {
+        return BodySize::Declined(7);
+    }
+    let start = 32 * (n as usize) + 64;
+    if end < start {
+        return BodySize::Declined(3);
+    }
+    let m = word(s, 4 * (n as usize) + 4);
+    if m < 1 {
+        return BodySize::Declined(7);
+    }
+    if 32_000 < m {
+        return BodySize::Declined(7);
+    }
+    check_vertices_on(s, n, m)
+}
+
+// What was counted of a list so far.
+struct Totals {
+    meshes: usize,
+    coordinates: usize,
+    submeshes: usize,
+    points: usize,
+}
+
+enum Totalled {
+    Totals(Totals),
+    Declined(u8),
+}
+
+// The totals with those of a mesh body added.
+fn add_body(s: &[u8], t: Totals, at: usize) -> Totalled
+    requires { ⌜ (length (now s) ≤ 67108864) × Room t at × (at + length (now s) ≤ 67108864) ⌝ }
+    ensures { λ r. ⌜ totalsSays r ≡ mapped (withBody t) (readMesh (now (s .entry))) ⌝ }
+{
+    match check_mesh(s) {
+        BodySize::Declined(k) => Totalled::Declined(k),
+        BodySize::Size(m, count, points) => Totalled::Totals(Totals {
+            meshes: t.meshes + 1,
+            coordinates: t.coordinates + 5 * (m as usize),
+            submeshes: t.submeshes + count as usize,
+            points: t.points + points,
+        }),
+    }
+}
+
+// The totals with those of a box: a mesh box's body is counted, another box is skipped.
+fn add_box(s: &[u8], fourcc: u32, body: usize, end: usize, t: Totals) -> Totalled
+    requires { ⌜ (length (now s) ≤ 67108864) × (body ≤ end) × (end ≤ length (now s)) × Room t body ⌝ }
+    ensures { λ r. ⌜ totalsSays r ≡ boxTotals (now (s .entry)) fourcc body end t ⌝ }
+{
+    if fourcc != MESH {
+        return Totalled::Totals(t);
+    }
+    add_body(&s[body..end], t, body)
+}
+
+// The totals of a list of boxes.
+fn measure_list(s: &[u8]) -> Totalled
+    requires { ⌜ length (now s) ≤ 67108864 ⌝ }
+    ensures { λ r. ⌜ totalsSays r ≡ mapped (totalsOf noTotals) (readMeshes (now (s .entry))) ⌝ }
+{
+    let mut at: usize = 0;
+    let mut t = Totals {
+        meshes: 0,
+        coordinates: 0,
+        submeshes: 0,
+        points: 0,
+    };
+    loop {
+        match bits::box_header(s, ByteCursor { at }) {
+            BoxHeader::ListEnd => {
+                return Totalled::Totals(t);
+            }
+            BoxHeader::BadSize => {
+                return Totalled::Declined(6);
+            }
+            BoxHeader::Header { fourcc, body, end } => {
+                match add_box(s, fourcc, body, end, t) {
+                    Totalled::Declined(k) => {
+                        return Totalled::Declined(k);
+                    }
+                    Totalled::Totals(next) => {
+                        t = next;
+                        at = end;
+                    }
+                }
+            }
+        }
+    }
+}
+
+// Measures a mesh list: 2, then 3, 6, 7 and 8 in payload order.
+pub fn measure_meshes(payload: &[u8]) -> Measured
+    ensures { λ r. ⌜ measuredSays r ≡ limited (now (payload .entry)) (mapped listSize (readMeshes (now (payload .entry)))) ⌝ }
+{
+    if 67_108_864 < payload.len() {
+        return Measured::Declined(2);
+    }
+    match measure_list(payload) {
+        Totalled::Declined(k) => Measured::Declined(k),
+        Totalled::Totals(t) => Measured::Size(MeshListSize {
+            meshes: t.meshes,
+            submeshes: t.submeshes,
+            points: t.points,
+            numbers: t.coordinates,
+            floats: 5 * t.points,
+            records: 5 * t.submeshes,
+        }),
+    }
+}
