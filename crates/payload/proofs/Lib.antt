@@ -23,3 +23,5 @@ pub mod CheckLaws
 pub mod MeasureLaws
 pub mod DrawLaws
 pub mod RecordLaws
+pub mod TableLaws
+pub mod SettledLaws

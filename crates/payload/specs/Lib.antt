@@ -23,4 +23,5 @@ pub mod MeshRead
 pub mod MeshDrawing
 pub mod MeshMarked
 pub mod Meshes
+pub mod Tables
 pub mod Internal

@@ -13,6 +13,7 @@ ghost use Rattle.payload.specs.Internal.{wideBits, narrowBits, queue, qu
 
 mod draw;
 mod measure;
+mod tables;
 
 pub use draw::MeshesAnswer;
 pub use draw::RecordsAnswer;
@@ -20,7 +21,12 @@ pub use draw::mesh_records;
 pub use draw::parse_meshes;
 pub use measure::Measured;
 pub use measure::MeshListSize;
+pub use measure::MeshMeasured;
+pub use measure::TableLengths;
+pub use measure::measure_mesh;
 pub use measure::measure_meshes;
+pub use tables::MeshAnswer;
+pub use tables::parse_mesh;
 
 // 'mesh', the type of a mesh box.
 const MESH: u32 = 0x6D65_7368;

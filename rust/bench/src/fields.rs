@@ -4,6 +4,7 @@ use std::hint::black_box;
 
 use reference::mesh::BitReader;
 
+use crate::random::Random;
 use crate::timing::medians;
 
 const BYTES: usize = 1 << 20;
@@ -35,15 +36,11 @@ pub fn table() -> Result<(), String> {
     Ok(())
 }
 
-/// xorshift64.
 fn random_bytes() -> Vec<u8> {
-    let mut state = 0x9E37_79B9_7F4A_7C15u64;
+    let mut random = Random::new();
     let mut bytes = Vec::with_capacity(BYTES);
     while bytes.len() < BYTES {
-        state ^= state << 13;
-        state ^= state >> 7;
-        state ^= state << 17;
-        bytes.extend(state.to_le_bytes());
+        bytes.extend(random.draw().to_le_bytes());
     }
     bytes
 }

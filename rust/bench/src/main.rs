@@ -2,12 +2,16 @@
 
 mod fields;
 mod fills;
+mod mesh_lists;
+mod meshes;
+mod random;
 mod timing;
 
 use std::process::ExitCode;
 
 fn main() -> ExitCode {
-    match fields::table().and_then(|()| fills::table()) {
+    let tables = [fields::table, fills::table, meshes::table];
+    match tables.iter().try_for_each(|table| table()) {
         Ok(()) => ExitCode::SUCCESS,
         Err(message) => {
             eprintln!("bench: {message}");

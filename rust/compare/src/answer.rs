@@ -54,6 +54,14 @@ impl Answer {
         Answer::new(probe_sys::NEEDS, &[length as u64])
     }
 
+    pub fn needs_each(lengths: &[usize]) -> Answer {
+        let mut words = [0; MOST_STORED];
+        for (word, length) in words.iter_mut().zip(lengths) {
+            *word = *length as u64;
+        }
+        Answer::new(probe_sys::NEEDS, &words[..lengths.len()])
+    }
+
     pub fn not_made() -> Answer {
         Answer::new(probe_sys::NOT_MADE, &[])
     }
@@ -109,6 +117,19 @@ pub fn ask(
         2..=4 => due.count.max(1),
         _ => MOST_STORED,
     };
+    ask_on(lent, due, call)
+}
+
+/// The same with enough words for any answer.
+pub fn ask_amply(
+    random: &mut Random,
+    due: &Answer,
+    call: impl FnOnce(&mut [u64]) -> i64,
+) -> (Reply, Reply) {
+    ask_on(MOST_STORED + random.below(3), due, call)
+}
+
+fn ask_on(lent: usize, due: &Answer, call: impl FnOnce(&mut [u64]) -> i64) -> (Reply, Reply) {
     let mut words = pattern();
     let code = call(&mut words[..lent]);
     (Reply { code, lent, words }, due.reply(lent))

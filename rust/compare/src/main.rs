@@ -10,11 +10,17 @@ mod counts;
 mod crops;
 mod cube;
 mod cursors;
+mod drawing;
 mod equi;
 mod fields;
 mod fill;
 mod float_bits;
 mod headers;
+mod mesh;
+mod mesh_damage;
+mod mesh_model;
+mod mesh_payloads;
+mod meshes;
 mod nearest;
 mod options;
 mod payloads;
@@ -29,6 +35,7 @@ mod sphere;
 mod stepped;
 mod sum_fields;
 mod sweep;
+mod tables;
 mod tally;
 mod view;
 mod zigzag;
@@ -40,7 +47,7 @@ use tally::Tally;
 
 type Subject = (&'static str, fn(&Options) -> Vec<Tally>);
 
-const SUBJECTS: [Subject; 20] = [
+const SUBJECTS: [Subject; 22] = [
     ("zigzag", zigzag::run),
     ("bit_width", bit_width::run),
     ("nearest", nearest::run),
@@ -59,6 +66,8 @@ const SUBJECTS: [Subject; 20] = [
     ("cbmp", cbmp::run),
     ("sphere", sphere::run),
     ("cube", cube::run),
+    ("mesh", mesh::run),
+    ("meshes", meshes::run),
     ("counts", counts::run),
     ("view", view::run),
 ];

@@ -1,15 +1,16 @@
-//! Payloads that the readers of kinds 0 and 1 take.
+//! Payloads that the readers of kinds 0 and 1 take, and what is shown of any.
 
 use crate::answer::Answer;
 use crate::random::Random;
 use crate::tally::Tally;
 
 /// No payload that is longer is read.
-const LONGEST: usize = 67_108_864;
-const TOO_LONG: i64 = 2;
+pub const LONGEST: usize = 67_108_864;
+pub const TOO_LONG: i64 = 2;
 const VERSIONS: [u8; 3] = [0, 1, 255];
 /// The longest of the short payloads.
 const SHORT: usize = 40;
+const MOST_SHOWN: usize = 256;
 
 /// All lengths of 0 to 40 bytes in each version: what a payload begins with, then random bytes.
 /// So are the three free bytes behind the version.
@@ -61,6 +62,6 @@ pub fn longest(
 
 /// What of a payload is shown beside a difference: its length and its first bytes.
 pub fn shown(payload: &[u8]) -> (usize, Vec<u8>) {
-    let n = payload.len().min(SHORT);
+    let n = payload.len().min(MOST_SHOWN);
     (payload.len(), payload[..n].to_vec())
 }

@@ -2,7 +2,7 @@
 
 use std::fmt::{Debug, Display};
 
-use crate::answer::{ask, Answer, Reply};
+use crate::answer::{ask, ask_amply, Answer, Reply};
 use crate::options::Options;
 use crate::random::Random;
 
@@ -64,6 +64,15 @@ impl Tally {
     /// Our reply to one call with lent words, and the one due. It is not counted yet.
     pub fn ask(&mut self, due: &Answer, call: impl FnOnce(&mut [u64]) -> i64) -> (Reply, Reply) {
         ask(&mut self.lent, due, call)
+    }
+
+    /// The same with enough words for any answer.
+    pub fn ask_amply(
+        &mut self,
+        due: &Answer,
+        call: impl FnOnce(&mut [u64]) -> i64,
+    ) -> (Reply, Reply) {
+        ask_amply(&mut self.lent, due, call)
     }
 
     #[cold]

@@ -178,4 +178,44 @@ extern "C" {
     pub fn probe_anaglyph_mix(pair: u32, eye: u32, words: *mut u64, words_len: usize) -> i64;
     pub fn probe_fov_for_zoom(zoom: f32) -> i64;
     pub fn probe_zoom_for_fov(fov: f32) -> i64;
+    pub fn probe_measure_meshes(
+        payload: *const u8,
+        payload_len: usize,
+        words: *mut u64,
+        words_len: usize,
+    ) -> i64;
+    pub fn probe_mesh_records(
+        payload: *const u8,
+        payload_len: usize,
+        records: *mut u32,
+        records_len: usize,
+        words: *mut u64,
+        words_len: usize,
+    ) -> i64;
+    pub fn probe_parse_mesh(
+        body: *const u8,
+        body_len: usize,
+        pool: *mut u32,
+        pool_len: usize,
+        coordinates: *mut u16,
+        coordinates_len: usize,
+        submeshes: *mut u32,
+        submeshes_len: usize,
+        points: *mut u16,
+        points_len: usize,
+        words: *mut u64,
+        words_len: usize,
+    ) -> i64;
+    pub fn probe_parse_meshes(
+        payload: *const u8,
+        payload_len: usize,
+        numbers: *mut u16,
+        numbers_len: usize,
+        floats: *mut u32,
+        floats_len: usize,
+        records: *mut u32,
+        records_len: usize,
+        words: *mut u64,
+        words_len: usize,
+    ) -> i64;
 }

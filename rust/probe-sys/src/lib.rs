@@ -2,13 +2,15 @@
 //!
 //! A call that is lent `words` answers the number of words of its answer and stores them from
 //! `words[0]` on, or nothing where `words` is shorter; or `-k` for refusal k, which stores nothing;
-//! or [`NEEDS`] with the needed length in `words[0]`; or [`NOT_MADE`] for a width above 32.
+//! or [`NEEDS`] with the needed lengths from `words[0]` on; or [`NOT_MADE`] for a width above 32.
 //!
-//! SAFETY, for every call here and in `payload`: each pointer comes with the length of the slice it was taken from.
+//! SAFETY, for every call here, in `mesh` and in `payload`: each pointer comes with the length of the slice it was taken from.
 
 mod ffi;
+mod mesh;
 mod payload;
 
+pub use mesh::*;
 pub use payload::*;
 
 pub const NEEDS: i64 = -12;

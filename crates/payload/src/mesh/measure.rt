@@ -18,6 +18,7 @@ ghost use Rattle.payload.specs.Run.{readRun, one, five};
 ghost use Rattle.payload.specs.MeshRead.{many, readSubmesh, readSubmeshes, afterCounts, readMesh, readMeshes};
 ghost use Rattle.payload.specs.Internal.{queue, placeOf, pointsEnd, submeshesSize, bodySize, Room, withBody, boxTotals, noTotals, totalsOf, runSays, submeshSays, submeshesSays, bodySays, totalsSays};
 ghost use Rattle.payload.specs.Meshes.{listSize, measuredSays};
+ghost use Rattle.payload.specs.Tables.{tableLengths, bodyRead, lengthsSays};
 
 // How much there is of a mesh list: its meshes, submeshes and points, and the lengths of its drawing's three lists.
 pub struct MeshListSize {
@@ -392,6 +393,38 @@ pub fn measure_meshes(payload: &[u8]) -> Measured
             numbers: t.coordinates,
             floats: 5 * t.points,
             records: 5 * t.submeshes,
+        }),
+    }
+}
+
+// The lengths of a mesh's four tables.
+pub struct TableLengths {
+    pub pool: usize,
+    pub coordinates: usize,
+    pub submeshes: usize,
+    pub points: usize,
+}
+
+// The lengths of a mesh's tables, or the number of a refusal.
+pub enum MeshMeasured {
+    Lengths(TableLengths),
+    Declined(u8),
+}
+
+// Measures a mesh body: 2, then 3, 7 and 8 in field order.
+pub fn measure_mesh(body: &[u8]) -> MeshMeasured
+    ensures { λ r. ⌜ lengthsSays r ≡ mapped tableLengths (bodyRead (now (body .entry))) ⌝ }
+{
+    if 67_108_864 < body.len() {
+        return MeshMeasured::Declined(2);
+    }
+    match check_mesh(body) {
+        BodySize::Declined(k) => MeshMeasured::Declined(k),
+        BodySize::Size(m, count, points) => MeshMeasured::Lengths(TableLengths {
+            pool: word(body, 0) as usize,
+            coordinates: 5 * (m as usize),
+            submeshes: 3 * (count as usize),
+            points,
         }),
     }
 }

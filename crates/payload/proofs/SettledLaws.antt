@@ -1,0 +1,114 @@
+-- A mesh list is settled by its bytes: reading it gives a reading or one number, and never asks for a buffer. Assumes nothing.
+use Prim.Native.Nat.{ℕ, zero, suc, _+_, _*_}
+use mathlib.Core.Path.{_≡_}
+use mathlib.Core.Bool.{Bool, true, false, cond}
+use mathlib.Core.List.{List, [], _∷_}
+use lib.Dec.{leb, ltb, eqb}
+use lib.ListN.{length}
+use Rattle.bits.specs.Verdict.{Verdict, accepted, needs, declined, within, andThen}
+use Rattle.bits.specs.Field.{field}
+use Rattle.bits.specs.Number.{widthOf}
+use Rattle.bits.specs.Header.{Item, listEnd, box, sizedAt, headerAt}
+use Rattle.payload.specs.Mesh.{Submesh, Mesh}
+use Rattle.payload.specs.Run.{Found, complete, readRun, shift, nextOf, before, one, five}
+use Rattle.payload.specs.MeshSpells.{aligned, verticesAt, part, meshType}
+use Rattle.payload.specs.MeshRead.{inRange, many, readSubmesh, submeshOf, readSubmeshes, meshOf, afterVertices, afterCounts, afterPoolCount, readMesh, readItem, readBoxes, readFrom, readMeshes}
+
+abbrev Settled : {A : Type 0} → Verdict A → Type 0
+Settled (accepted a) = Unit {0}
+Settled (needs l) = ⊥
+Settled (declined k) = Unit {0}
+
+-- ---- the ways in which verdicts are put together
+
+settled-then : {A B : Type 0} (v : Verdict A) (f : A → Verdict B) → Settled v → ((a : A) → Settled (f a)) → Settled (andThen v f)
+settled-then (accepted a) f h k = k a
+settled-then (needs l) f h k = h
+settled-then (declined n) f h k = tt
+
+settled-cond : {A : Type 0} (b : Bool) (u v : Verdict A) → Settled u → Settled v → Settled (cond b u v)
+settled-cond true u v h k = h
+settled-cond false u v h k = k
+
+settled-complete : {A : Type 0} (s : List ℕ) (e : ℕ) (v : Verdict A) → Settled v → Settled (complete s e v)
+unfolding complete
+settled-complete s e v h = settled-cond (leb e (8 * length s)) v (declined 3) h tt
+
+settled-range : {A : Type 0} (low high n : ℕ) (v : Verdict A) → Settled v → Settled (inRange low high n v)
+unfolding inRange
+settled-range low high n v h = settled-cond (leb low n) (cond (leb n high) v (declined 7)) (declined 7) (settled-cond (leb n high) v (declined 7) h tt) tt
+
+settled-many : {A : Type 0} (read : ℕ → Found A) → ((p : ℕ) → Settled (read p)) → (n p : ℕ) → Settled (many read n p)
+unfolding many
+settled-many read h zero p = tt
+settled-many read h (suc n) p =
+    settled-then (read p) (λ x. andThen (many read n (x .1)) (λ l. accepted (x .0 ∷ l .0, l .1))) (h p)
+    (λ x. settled-then (many read n (x .1)) (λ l. accepted (x .0 ∷ l .0, l .1)) (settled-many read h n (x .1)) (λ l. tt))
+
+-- ---- kind 2, from a run up to the list of boxes
+
+settled-run : (s : List ℕ) (w limit n p : ℕ) (prior : List ℕ) → Settled (readRun s w limit n p prior)
+unfolding readRun
+settled-run s w limit zero p prior = tt
+settled-run s w limit (suc n) p prior =
+    let next = nextOf s w p prior in
+    let rest = readRun s w limit n (p + w) (shift prior next) in
+    settled-complete s (p + w) (cond (ltb next limit) (before next rest) (declined 8))
+    (settled-cond (ltb next limit) (before next rest) (declined 8) (settled-then rest (λ x. accepted (next ∷ x .0, x .1)) (settled-run s w limit n (p + w) (shift prior next)) (λ x. tt)) tt)
+
+settled-submesh : (s : List ℕ) (w m p : ℕ) → Settled (readSubmesh s w m p)
+unfolding readSubmesh
+settled-submesh s w m p =
+    let n = field s (p + 16) 32 in
+    let run = readRun s w m n (p + 48) one in
+    settled-complete s (p + 48) (inRange 1 128000 n (andThen run (submeshOf s p)))
+    (settled-range 1 128000 n (andThen run (submeshOf s p)) (settled-then run (submeshOf s p) (settled-run s w m n (p + 48) one) (λ x. tt)))
+
+settled-submeshes : (s : List ℕ) (w m p : ℕ) → Settled (readSubmeshes s w m p)
+unfolding readSubmeshes
+settled-submeshes s w m p =
+    let n = field s p 32 in
+    let all = many (readSubmesh s w m) n (p + 32) in
+    settled-complete s (p + 32) (inRange 1 4294967295 n all) (settled-range 1 4294967295 n all (settled-many (readSubmesh s w m) (settled-submesh s w m) n (p + 32)))
+
+settled-counts : (s : List ℕ) (n m : ℕ) → Settled (afterCounts s n m)
+unfolding afterCounts afterVertices
+settled-counts s n m =
+    settled-then (readRun s (widthOf n) n (5 * m) (verticesAt n) five) (afterVertices s n m) (settled-run s (widthOf n) n (5 * m) (verticesAt n) five)
+    (λ v. settled-then (readSubmeshes s (widthOf m) m (aligned (v .1))) (meshOf s n (v .0)) (settled-submeshes s (widthOf m) m (aligned (v .1))) (λ l. tt))
+
+settled-mesh : (s : List ℕ) → Settled (readMesh s)
+unfolding readMesh afterPoolCount
+settled-mesh s =
+    let n = field s 0 32 in
+    let m = field s (32 * n + 32) 32 in
+    settled-complete s 32 (inRange 1 10000 n (afterPoolCount s n))
+    (settled-range 1 10000 n (afterPoolCount s n)
+    (settled-complete s (verticesAt n) (inRange 1 32000 m (afterCounts s n m)) (settled-range 1 32000 m (afterCounts s n m) (settled-counts s n m))))
+
+settled-header : (s : List ℕ) (p : ℕ) → Settled (headerAt s p)
+unfolding headerAt sizedAt within
+settled-header s p =
+    let size = field s (8 * p) 32 in
+    let type = field s (8 * (p + 4)) 32 in
+    let found : Verdict Item = cond (leb (p + size) (length s)) (accepted (box type (p + 8) (p + size))) (declined 6) in
+    settled-cond (leb (p + 8) (length s)) (cond (leb 8 size) found (declined 6)) (accepted listEnd)
+    (settled-cond (leb 8 size) found (declined 6) (settled-cond (leb (p + size) (length s)) (accepted (box type (p + 8) (p + size))) (declined 6) tt tt) tt)
+    tt
+
+settled-item : (s : List ℕ) (rest : ℕ → Verdict (List Mesh)) → ((p : ℕ) → Settled (rest p)) → (i : Item) → Settled (readItem s rest i)
+settled-item s rest h listEnd = tt
+settled-item s rest h (box type body end) =
+    let more : Mesh × ℕ → Verdict (List Mesh) = λ x. andThen (rest end) (λ l. accepted (x .0 ∷ l)) in
+    settled-cond (eqb type meshType) (andThen (readMesh (part s body end)) more) (rest end)
+    (settled-then (readMesh (part s body end)) more (settled-mesh (part s body end)) (λ x. settled-then (rest end) (λ l. accepted (x .0 ∷ l)) (h end) (λ l. tt)))
+    (h end)
+
+settled-boxes : (s : List ℕ) (turns p : ℕ) → Settled (readBoxes s turns p)
+unfolding readBoxes
+settled-boxes s zero p = tt
+settled-boxes s (suc turns) p = settled-then (headerAt s p) (readItem s (readBoxes s turns)) (settled-header s p) (settled-item s (readBoxes s turns) (settled-boxes s turns))
+
+pub never-needs : (s l : List ℕ) → readMeshes s ≡ needs l → ⊥
+unfolding readFrom
+never-needs s l e = rw e at (settled-boxes s (length s) 0)

@@ -1,0 +1,279 @@
+-- The tables of a mesh are stored piece by piece, and what the call says and leaves. Assumes nothing.
+use Prim.Native.Nat.{ℕ, zero, suc, _+_, _-_, _*_, _≤_, _<_}
+use mathlib.Core.Path.{_≡_, refl, sym, ap, _∙_}
+use mathlib.Core.List.{List, [], _∷_}
+use mathlib.Core.Bool.{true, false}
+use native.Mathlib.Omega.{arith}
+use native.Mathlib.Decide.{decLe}
+use lib.ListN.{length, set, length-append}
+use lib.Seq.{sets}
+use borrow.Author.Tests.{le-leb, lt-leb}
+use Rattle.bits.specs.Verdict.{Verdict, accepted, needs, declined, mapped, andThen}
+use Rattle.bits.specs.Field.{field}
+use Rattle.bits.proofs.VerdictLaws.{then-yes, then-no}
+use Rattle.payload.specs.Mesh.{Submesh, Mesh}
+use Rattle.payload.specs.Run.{readRun, one}
+use Rattle.payload.specs.MeshSpells.{vertexCount}
+use Rattle.payload.specs.MeshRead.{many, readSubmesh, readWords, readMesh}
+use Rattle.payload.specs.MeshDrawing.{pointCount}
+use Rattle.payload.specs.Internal.{WasRead, runNumbers, submeshesRead, meshRead, bodySize}
+use Rattle.payload.specs.Tables.{submeshRows, allPoints, poolTable, coordinateTable, submeshTable, pointTable, tableLengths, bodyRead, tablesFit, tablesAnswer, tablesInto}
+use Rattle.payload.specs.declared.mesh.measure.TableLengths.{TableLengths}
+use Rattle.payload.proofs.FillLaws.{sets-after, sets-front}
+use Rattle.payload.proofs.PayloadLaws.{limited-yes, limited-no}
+use Rattle.payload.proofs.StepLaws.{Turn, Got3, read-value}
+use Rattle.payload.proofs.MeshReadLaws.{words-length, MeshParts, mesh-parts, mesh-spells}
+use Rattle.payload.proofs.CheckLaws.{mapped-value, mapped-declined}
+use Rattle.payload.proofs.DrawLaws.{SubmeshTurn}
+
+-- the same list stored
+pub stored-same : (d e l m : List ℕ) → e ≡ sets d 0 l → l ≡ m → e ≡ sets d 0 m
+stored-same d e l m h k = h ∙ ap (λ (x : List ℕ). sets d 0 x) k
+
+-- ---- pool words
+
+pub words-none : (s : List ℕ) (p n : ℕ) → n ≤ 0 → readWords s p n ≡ []
+unfolding readWords
+words-none s p zero h = refl
+words-none s p (suc n) h = absurd (omega arith)
+
+words-first : (s : List ℕ) (p n : ℕ) → 0 < n → readWords s p n ≡ field s p 32 ∷ readWords s (p + 32) (n - 1)
+unfolding readWords
+words-first s p zero o = absurd (omega arith)
+words-first s p (suc n) o = let z : suc n - 1 ≡ n = omega arith in rw z
+
+-- word i of n is stored, and the others are left
+pub word-stored : (s d : List ℕ) (n i r : ℕ) → i < n → r ≡ field s (8 * (4 * i + 4)) 32
+    → sets d i (readWords s (32 + 32 * i) (n - i)) ≡ sets (set d i r) (i + 1) (readWords s (32 + 32 * (i + 1)) (n - (i + 1)))
+word-stored s d n i r h e =
+    let a : 32 + 32 * i + 32 ≡ 32 + 32 * (i + 1) = omega arith in
+    let b : n - i - 1 ≡ n - (i + 1) = omega arith in
+    let k : i + 1 ≡ suc i = omega arith in
+    let f : field s (32 + 32 * i) 32 ≡ r = ap (λ (q : ℕ). field s q 32) (omega arith) ∙ sym e in
+    ap (λ (l : List ℕ). sets d i l) (words-first s (32 + 32 * i) (n - i) (omega arith)) ∙ rw (f, a, b, k)
+
+-- ---- submesh rows
+
+pub rows-none : (l : List Submesh) → l ≡ [] → submeshRows l ≡ []
+unfolding submeshRows
+rows-none l e = rw e
+
+pub rows-length : (l : List Submesh) → length (submeshRows l) ≡ 3 * length l
+unfolding submeshRows
+rows-length [] = refl
+rows-length (x ∷ l) = omega (arith, rows-length l)
+
+-- the first submesh's row is stored, and the others' are left
+row-stored : (x : Submesh) (l m : List Submesh) (d : List ℕ) (o : ℕ) → l ≡ x ∷ m
+    → sets d o (submeshRows l) ≡ sets (sets d o (x .texture ∷ x .mode ∷ length (x .points) ∷ [])) (o + 3) (submeshRows m)
+unfolding submeshRows
+row-stored x l m d o e = rw e (sets-after (x .texture ∷ x .mode ∷ length (x .points) ∷ []) (submeshRows m) d o (o + 3) refl)
+
+-- ---- points
+
+pub points-none : (l : List Submesh) → l ≡ [] → allPoints l ≡ []
+unfolding allPoints
+points-none l e = rw e
+
+pub points-length : (l : List Submesh) → length (allPoints l) ≡ pointCount l
+unfolding allPoints
+points-length [] = refl
+points-length (x ∷ l) = length-append (x .points) (allPoints l) ∙ ap (λ (k : ℕ). length (x .points) + k) (points-length l)
+
+-- the first submesh's points are stored, and the others' are left
+points-stored : (x : Submesh) (l m : List Submesh) (d : List ℕ) (o t : ℕ) → l ≡ x ∷ m → o + length (x .points) ≡ t
+    → sets d o (allPoints l) ≡ sets (sets d o (x .points)) t (allPoints m)
+unfolding allPoints
+points-stored x l m d o t e g = rw e (sets-after (x .points) (allPoints m) d o t g)
+
+-- ---- a run of vertex numbers: what is left of it goes to what is left of the buffer
+
+module _ (s : List ℕ) (w m n p x : ℕ) (d : List ℕ) (o : ℕ) where
+  pub one-stored : (r : ℕ) → Turn s w m n p (x ∷ []) r
+      → sets d o (runNumbers (readRun s w m n p (x ∷ []))) ≡ sets (set d o r) (o + 1) (runNumbers (readRun s w m (n - 1) (p + w) (r ∷ [])))
+  one-stored r g = let k : o + 1 ≡ suc o = omega arith in ap (λ (l : List ℕ). sets d o l) (g .is) ∙ rw k
+
+  pub three-stored : (a b c : ℕ) (e : List ℕ) → Got3 s w m n p x a b c → e ≡ sets d o (a ∷ b ∷ c ∷ [])
+      → sets d o (runNumbers (readRun s w m n p (x ∷ []))) ≡ sets e (o + 3) (runNumbers (readRun s w m (n - 3) (p + 3 * w) (c ∷ [])))
+  three-stored a b c e g h =
+      ap (λ (l : List ℕ). sets d o l) (g .is)
+      ∙ sets-after (a ∷ b ∷ c ∷ []) (runNumbers (readRun s w m (n - 3) (p + 3 * w) (c ∷ []))) d o (o + 3) refl
+      ∙ rw (← h)
+
+-- ---- the first of n submeshes, whose point count is k
+
+module _ {s : List ℕ} {w m n p k : ℕ} {x : Submesh} (T : SubmeshTurn s w m n p k x) (d e : List ℕ) (o : ℕ) where
+  -- its row was stored, and the others' are left
+  pub row-turn : (a b : ℕ) → a ≡ field s p 8 → b ≡ field s (p + 8) 8 → e ≡ sets d o (a ∷ b ∷ k ∷ [])
+      → sets d o (submeshRows (submeshesRead (many (readSubmesh s w m) n p)))
+      ≡ sets e (o + 3) (submeshRows (submeshesRead (many (readSubmesh s w m) (n - 1) (p + (48 + k * w)))))
+  row-turn a b ea eb h =
+      let f : sets d o (x .texture ∷ x .mode ∷ length (x .points) ∷ []) ≡ e = rw (← T .texture, ← T .mode, ← T .count, ← ea, ← eb) (sym h) in
+      row-stored x _ _ d o (T .is) ∙ rw f
+
+  -- its points were stored, and the others' are left
+  pub points-turn : e ≡ sets d o (runNumbers (readRun s w m k (p + 48) one))
+      → sets d o (allPoints (submeshesRead (many (readSubmesh s w m) n p)))
+      ≡ sets e (o + k) (allPoints (submeshesRead (many (readSubmesh s w m) (n - 1) (p + (48 + k * w)))))
+  points-turn h =
+      let f : sets d o (x .points) ≡ e = sym (h ∙ rw (T .run)) in
+      points-stored x _ _ d o (o + k) (T .is) (ap (λ (j : ℕ). o + j) (sym (T .count))) ∙ rw f
+
+-- how many points all of them have
+pub points-split : {s : List ℕ} {w m n p k : ℕ} {x : Submesh} → SubmeshTurn s w m n p k x
+    → length (allPoints (submeshesRead (many (readSubmesh s w m) n p))) ≡ k + length (allPoints (submeshesRead (many (readSubmesh s w m) (n - 1) (p + (48 + k * w)))))
+unfolding allPoints
+points-split {x = x} T = rw (T .is, T .count) (length-append (x .points) _)
+
+-- what was accepted was read
+pub was-read : {A : Type 0} (v : Verdict A) (a : A) → v ≡ accepted a → WasRead v
+was-read v a e = rw e tt
+
+-- ---- a mesh that was read
+
+-- its pool, and how many words that has
+pub pool-known : (s : List ℕ) → WasRead (readMesh s) → (n : ℕ) → n ≡ field s 0 32 → (meshRead s .pool ≡ readWords s 32 n) × (length (meshRead s .pool) ≡ n)
+pool-known s r n e = let v = read-value (readMesh s) r in go (v .0 .0) (v .0 .1) (v .1) (mesh-parts s (v .0 .0) (v .0 .1) (v .1))
+  where
+    go : (x : Mesh) (t : ℕ) → readMesh s ≡ accepted (x, t) → MeshParts s x t → (meshRead s .pool ≡ readWords s 32 n) × (length (meshRead s .pool) ≡ n)
+    go x t f P =
+        let i : P .n ≡ n = sym (P .n-is) ∙ sym e in
+        let z : x .pool ≡ readWords s 32 n = P .pool-is ∙ rw i in
+        rw (f, meshRead) (z, ap length z ∙ words-length s 32 n)
+
+-- ---- measuring a body
+
+body-declined : (s : List ℕ) (k : ℕ) → length s ≤ 67108864 → readMesh s ≡ declined k → bodyRead s ≡ declined k
+body-declined s k h e = limited-yes s _ h ∙ then-no (readMesh s) (λ x. accepted (x .0)) k e
+
+body-accepted : (s : List ℕ) (x : Mesh) (t : ℕ) → length s ≤ 67108864 → readMesh s ≡ accepted (x, t) → bodyRead s ≡ accepted x
+body-accepted s x t h e = limited-yes s _ h ∙ then-yes (readMesh s) (λ x. accepted (x .0)) (x, t) e
+
+lengths-are : (x : Mesh) (n : TableLengths) → n ≡ tableLengths x
+    → (n .pool ≡ length (poolTable x)) × (n .coordinates ≡ length (coordinateTable x)) × (n .submeshes ≡ length (submeshTable x)) × (n .points ≡ length (pointTable x))
+unfolding tableLengths
+lengths-are x n e =
+    (ap (λ (n : TableLengths). n .pool) e, ap (λ (n : TableLengths). n .coordinates) e, ap (λ (n : TableLengths). n .submeshes) e, ap (λ (n : TableLengths). n .points) e)
+
+lengths-of : (x : Mesh) (n : TableLengths)
+    → n .pool ≡ length (poolTable x) → n .coordinates ≡ length (coordinateTable x) → n .submeshes ≡ length (submeshTable x) → n .points ≡ length (pointTable x) → n ≡ tableLengths x
+unfolding tableLengths
+lengths-of x n a b c d = λ i. record { pool = a i; coordinates = b i; submeshes = c i; points = d i }
+
+module _ (s : List ℕ) where
+  pub lengths-long : 67108864 < length s → declined 2 ≡ mapped tableLengths (bodyRead s)
+  lengths-long h = sym (then-no (bodyRead s) (λ x. accepted (tableLengths x)) 2 (limited-no s _ h))
+
+  pub lengths-refused : (k : ℕ) → length s ≤ 67108864 → declined k ≡ mapped bodySize (readMesh s) → declined k ≡ mapped tableLengths (bodyRead s)
+  lengths-refused k h e = sym (then-no (bodyRead s) (λ x. accepted (tableLengths x)) k (body-declined s k h (mapped-declined bodySize (readMesh s) k e)))
+
+  -- a mesh that was read has m vertices, k submeshes and j points. Its coordinate count is there
+  pub count-there : (m k j : ℕ) → accepted (m, k, j) ≡ mapped bodySize (readMesh s) → 4 ≤ length s
+  count-there m k j e =
+      let v = mapped-value bodySize (readMesh s) (m, k, j) e in
+      let S = mesh-spells s (v .0 .0) (v .0 .1) (v .1) in
+      omega (arith, S .head, S .pool-some)
+
+  -- and they give its lengths
+  pub lengths-found : (n : TableLengths) (m k j : ℕ) → length s ≤ 67108864 → accepted (m, k, j) ≡ mapped bodySize (readMesh s)
+      → n .pool ≡ field s 0 32 → n .coordinates ≡ 5 * m → n .submeshes ≡ 3 * k → n .points ≡ j → accepted n ≡ mapped tableLengths (bodyRead s)
+  lengths-found n m k j h e a b c d =
+      let v = mapped-value bodySize (readMesh s) (m, k, j) e in
+      let x = v .0 .0 in
+      let S = mesh-spells s x (v .0 .1) (v .1) in
+      let i : vertexCount x ≡ m = ap (λ (y : ℕ × ℕ × ℕ). y .0) (v .2) in
+      let f : length (x .submeshes) ≡ k = ap (λ (y : ℕ × ℕ × ℕ). y .1) (v .2) in
+      let g : pointCount (x .submeshes) ≡ j = ap (λ (y : ℕ × ℕ × ℕ). y .2) (v .2) in
+      let z = lengths-of x n (a ∙ S .pool-count) (omega (arith, S .fives)) (omega (arith, rows-length (x .submeshes))) (d ∙ sym g ∙ sym (points-length (x .submeshes))) in
+      ap accepted z ∙ sym (then-yes (bodyRead s) (λ x. accepted (tableLengths x)) x (body-accepted s x (v .0 .1) h (v .1)))
+
+-- a body that was measured was read
+pub record BodyKnown (s : List ℕ) (n : TableLengths) : Type 0 where
+  pub size : length s ≤ 67108864
+  pub read : WasRead (readMesh s)
+  pub is : bodyRead s ≡ accepted (meshRead s)
+  pub lengths : n ≡ tableLengths (meshRead s)
+
+pub body-known : (s : List ℕ) (n : TableLengths) → accepted n ≡ mapped tableLengths (bodyRead s) → BodyKnown s n
+body-known s n e = go (decLe (length s) 67108864) (mapped-value tableLengths (bodyRead s) n e)
+  where
+    go : Dec (length s ≤ 67108864) → (x : Mesh) × (bodyRead s ≡ accepted x) × (tableLengths x ≡ n) → BodyKnown s n
+    go (no h) (x, f, g) = absurd (let d = limited-no s (mapped (λ (x : Mesh × ℕ). x .0) (readMesh s)) (omega arith) in let z : _≡_ {A = ℕ} 0 1 = cc in omega arith)
+    go (yes h) (x, f, g) =
+        let v = mapped-value (λ (x : Mesh × ℕ). x .0) (readMesh s) x (sym f ∙ limited-yes s _ h) in
+        let z : meshRead s ≡ x = rw (v .1, meshRead) (v .2) in
+        record { size = h; read = was-read (readMesh s) (v .0) (v .1); is = rw z f; lengths = rw z (sym g) }
+
+-- ---- the tables and four buffers
+
+module _ (x : Mesh) (n : TableLengths) (l : n ≡ tableLengths x) (a b c d : ℕ) where
+  fit-yes : n .pool ≤ a → n .coordinates ≤ b → n .submeshes ≤ c → n .points ≤ d → tablesFit x a b c d ≡ true
+  unfolding tablesFit
+  fit-yes h₁ h₂ h₃ h₄ = let e = lengths-are x n l in rw (← e .0, ← e .1, ← e .2, ← e .3) (simp (le-leb (n .pool) a h₁, le-leb (n .coordinates) b h₂, le-leb (n .submeshes) c h₃, le-leb (n .points) d h₄))
+
+  fit-no₁ : a < n .pool → tablesFit x a b c d ≡ false
+  unfolding tablesFit
+  fit-no₁ h₁ = let e = lengths-are x n l in rw (← e .0) (simp (lt-leb (n .pool) a h₁))
+
+  fit-no₂ : n .pool ≤ a → b < n .coordinates → tablesFit x a b c d ≡ false
+  unfolding tablesFit
+  fit-no₂ h₁ h₂ = let e = lengths-are x n l in rw (← e .0, ← e .1) (simp (le-leb (n .pool) a h₁, lt-leb (n .coordinates) b h₂))
+
+  fit-no₃ : n .pool ≤ a → n .coordinates ≤ b → c < n .submeshes → tablesFit x a b c d ≡ false
+  unfolding tablesFit
+  fit-no₃ h₁ h₂ h₃ = let e = lengths-are x n l in rw (← e .0, ← e .1, ← e .2) (simp (le-leb (n .pool) a h₁, le-leb (n .coordinates) b h₂, lt-leb (n .submeshes) c h₃))
+
+  fit-no₄ : n .pool ≤ a → n .coordinates ≤ b → n .submeshes ≤ c → d < n .points → tablesFit x a b c d ≡ false
+  unfolding tablesFit
+  fit-no₄ h₁ h₂ h₃ h₄ = let e = lengths-are x n l in rw (← e .0, ← e .1, ← e .2, ← e .3) (simp (le-leb (n .pool) a h₁, le-leb (n .coordinates) b h₂, le-leb (n .submeshes) c h₃, lt-leb (n .points) d h₄))
+
+-- the call says w of the body's verdict v, and takes the buffers to p′, q′, r′ and t′
+abbrev pub Answered : Verdict TableLengths → Verdict Mesh → List ℕ → List ℕ → List ℕ → List ℕ → List ℕ → List ℕ → List ℕ → List ℕ → Type 0
+Answered w v p q r t p′ q′ r′ t′ =
+    (w ≡ andThen v (λ x. tablesAnswer x (length p) (length q) (length r) (length t)))
+    × ((p′ ≡ tablesInto poolTable v (length p) (length q) (length r) (length t) p)
+    × ((q′ ≡ tablesInto coordinateTable v (length p) (length q) (length r) (length t) q)
+    × ((r′ ≡ tablesInto submeshTable v (length p) (length q) (length r) (length t) r)
+    × (t′ ≡ tablesInto pointTable v (length p) (length q) (length r) (length t) t))))
+
+-- the lengths as a list
+abbrev pub fourLengths : TableLengths → List ℕ
+fourLengths n = n .pool ∷ n .coordinates ∷ n .submeshes ∷ n .points ∷ []
+
+module _ (s p q r t : List ℕ) where
+  pub answered-declined : (k : ℕ) → declined k ≡ mapped tableLengths (bodyRead s) → Answered (declined k) (bodyRead s) p q r t p q r t
+  answered-declined k e = let z = mapped-declined tableLengths (bodyRead s) k e in rw z (refl, (refl, (refl, (refl, refl))))
+
+  module _ (n : TableLengths) (K : BodyKnown s n) where
+    needed : tablesFit (meshRead s) (length p) (length q) (length r) (length t) ≡ false → Answered (needs (fourLengths n)) (bodyRead s) p q r t p q r t
+    unfolding tablesAnswer
+    needed f = let z = lengths-are (meshRead s) n (K .lengths) in rw (K .is, f, z .0, z .1, z .2, z .3) (refl, (refl, (refl, (refl, refl))))
+
+    -- a buffer is too short
+    pub short₁ : length p < n .pool → Answered (needs (fourLengths n)) (bodyRead s) p q r t p q r t
+    short₁ h₁ = needed (fit-no₁ (meshRead s) n (K .lengths) _ _ _ _ h₁)
+
+    pub short₂ : n .pool ≤ length p → length q < n .coordinates → Answered (needs (fourLengths n)) (bodyRead s) p q r t p q r t
+    short₂ h₁ h₂ = needed (fit-no₂ (meshRead s) n (K .lengths) _ _ _ _ h₁ h₂)
+
+    pub short₃ : n .pool ≤ length p → n .coordinates ≤ length q → length r < n .submeshes → Answered (needs (fourLengths n)) (bodyRead s) p q r t p q r t
+    short₃ h₁ h₂ h₃ = needed (fit-no₃ (meshRead s) n (K .lengths) _ _ _ _ h₁ h₂ h₃)
+
+    pub short₄ : n .pool ≤ length p → n .coordinates ≤ length q → n .submeshes ≤ length r → length t < n .points → Answered (needs (fourLengths n)) (bodyRead s) p q r t p q r t
+    short₄ h₁ h₂ h₃ h₄ = needed (fit-no₄ (meshRead s) n (K .lengths) _ _ _ _ h₁ h₂ h₃ h₄)
+
+    -- all four are long enough
+    module _ (h₁ : n .pool ≤ length p) (h₂ : n .coordinates ≤ length q) (h₃ : n .submeshes ≤ length r) (h₄ : n .points ≤ length t) where
+      pub tables-fit : (length (poolTable (meshRead s)) ≤ length p) × (length (coordinateTable (meshRead s)) ≤ length q) × (length (submeshTable (meshRead s)) ≤ length r)
+          × (length (pointTable (meshRead s)) ≤ length t)
+      tables-fit = let z = lengths-are (meshRead s) n (K .lengths) in rw (← z .0, ← z .1, ← z .2, ← z .3) (h₁, h₂, h₃, h₄)
+
+      pub answered-tables : (p′ q′ r′ t′ : List ℕ) → p′ ≡ sets p 0 (poolTable (meshRead s)) → q′ ≡ sets q 0 (coordinateTable (meshRead s))
+          → r′ ≡ sets r 0 (submeshTable (meshRead s)) → t′ ≡ sets t 0 (pointTable (meshRead s)) → Answered (accepted n) (bodyRead s) p q r t p′ q′ r′ t′
+      unfolding tablesAnswer
+      answered-tables p′ q′ r′ t′ a b c d =
+          let x = meshRead s in
+          let f = fit-yes x n (K .lengths) (length p) (length q) (length r) (length t) h₁ h₂ h₃ h₄ in
+          let z = tables-fit in
+          rw (K .is, f)
+          (ap accepted (K .lengths), (a ∙ sets-front (poolTable x) p (z .0), (b ∙ sets-front (coordinateTable x) q (z .1), (c ∙ sets-front (submeshTable x) r (z .2), d ∙ sets-front (pointTable x) t (z .3)))))

@@ -1,0 +1,82 @@
+-- A mesh body as four tables: what the call says, and what it leaves in the buffers.
+use Prim.Native.Nat.{ℕ}
+use mathlib.Core.List.{List, [], _∷_, _++_}
+use mathlib.Core.Bool.{Bool, _&&_, cond}
+use lib.Dec.{leb}
+use lib.ListN.{length, drop}
+use Rattle.bits.specs.Verdict.{Verdict, accepted, needs, declined, mapped}
+use Rattle.payload.specs.Payload.{limited}
+use Rattle.payload.specs.Mesh.{Submesh, Mesh}
+use Rattle.payload.specs.MeshRead.{readMesh}
+use Rattle.payload.specs.declared.mesh.measure.TableLengths.{TableLengths}
+use Rattle.payload.specs.declared.mesh.measure.MeshMeasured.{MeshMeasured}
+use Rattle.payload.specs.declared.mesh.measure.MeshMeasured.the-variants as M
+use Rattle.payload.specs.declared.mesh.tables.MeshAnswer.{MeshAnswer}
+use Rattle.payload.specs.declared.mesh.tables.MeshAnswer.the-variants as A
+
+-- ---- the four lists of a mesh: its pool, its coordinate numbers, and these two
+
+-- three words for each submesh: texture, mode, point count
+unfoldable pub submeshRows : List Submesh → List ℕ
+submeshRows [] = []
+submeshRows (x ∷ l) = (x .texture ∷ x .mode ∷ length (x .points) ∷ []) ++ submeshRows l
+
+-- the vertex numbers of the points, submesh after submesh
+unfoldable pub allPoints : List Submesh → List ℕ
+allPoints [] = []
+allPoints (x ∷ l) = x .points ++ allPoints l
+
+abbrev pub poolTable : Mesh → List ℕ
+poolTable x = x .pool
+
+abbrev pub coordinateTable : Mesh → List ℕ
+coordinateTable x = x .vertices
+
+abbrev pub submeshTable : Mesh → List ℕ
+submeshTable x = submeshRows (x .submeshes)
+
+abbrev pub pointTable : Mesh → List ℕ
+pointTable x = allPoints (x .submeshes)
+
+unfoldable pub tableLengths : Mesh → TableLengths
+tableLengths x =
+    record {
+      pool = length (poolTable x);
+      coordinates = length (coordinateTable x);
+      submeshes = length (submeshTable x);
+      points = length (pointTable x);
+    }
+
+-- ---- a body, and the lengths of its tables
+
+-- its mesh, or the number of a refusal: 2, then 3, 7 and 8 in field order
+abbrev pub bodyRead : List ℕ → Verdict Mesh
+bodyRead s = limited s (mapped (λ x. x .0) (readMesh s))
+
+abbrev pub lengthsSays : MeshMeasured → Verdict TableLengths
+lengthsSays (M.Lengths n) = accepted n
+lengthsSays (M.Declined k) = declined k
+
+-- ---- the tables and four buffers of a, b, c and d elements
+
+unfoldable pub tablesFit : Mesh → ℕ → ℕ → ℕ → ℕ → Bool
+tablesFit x a b c d =
+    ((leb (length (poolTable x)) a && leb (length (coordinateTable x)) b) && leb (length (submeshTable x)) c) && leb (length (pointTable x)) d
+
+-- the four used lengths where the tables fit, and else the four needed ones (12), in the same order
+unfoldable pub tablesAnswer : Mesh → ℕ → ℕ → ℕ → ℕ → Verdict TableLengths
+tablesAnswer x a b c d =
+    cond (tablesFit x a b c d)
+    (accepted (tableLengths x))
+    (needs (length (poolTable x) ∷ length (coordinateTable x) ∷ length (submeshTable x) ∷ length (pointTable x) ∷ []))
+
+abbrev pub tablesSays : MeshAnswer → Verdict TableLengths
+tablesSays (A.Tables n) = accepted n
+tablesSays (A.Needs n) = needs (n .pool ∷ n .coordinates ∷ n .submeshes ∷ n .points ∷ [])
+tablesSays (A.Declined k) = declined k
+
+-- a buffer afterwards: its table at the front where all four fit, and the rest, or all of it, as it was
+abbrev pub tablesInto : (Mesh → List ℕ) → Verdict Mesh → ℕ → ℕ → ℕ → ℕ → List ℕ → List ℕ
+tablesInto table (accepted x) a b c d out = cond (tablesFit x a b c d) (table x ++ drop (length (table x)) out) out
+tablesInto table (needs k) a b c d out = out
+tablesInto table (declined k) a b c d out = out

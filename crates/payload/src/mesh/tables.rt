@@ -1,0 +1,217 @@
+// A mesh body as four tables: pool words, coordinate numbers, three words for each submesh, and the vertex numbers of the points.
+// A body is measured first. What fills the tables goes over a body that is known to be read whole, and tests nothing again.
+use super::VertexNumber;
+use super::fill_vertices;
+use super::measure::MeshMeasured;
+use super::measure::TableLengths;
+use super::measure::measure_mesh;
+use super::mesh_head;
+use super::one_field;
+use super::three_fields;
+use super::word;
+ghost use mathlib.Core.Path.{_≡_};
+ghost use mathlib.Core.List.{[], _∷_};
+ghost use Prim.Native.Nat.{_+_, _*_, _≤_};
+ghost use lib.ListN.{length};
+ghost use lib.Seq.{sets};
+ghost use Rattle.bits.specs.Verdict.{andThen};
+ghost use Rattle.bits.specs.Number.{widthOf};
+ghost use Rattle.payload.specs.Run.{readRun, one};
+ghost use Rattle.payload.specs.MeshRead.{many, readSubmesh, readWords, readMesh};
+ghost use Rattle.payload.specs.Internal.{WasRead, runNumbers, submeshesRead, meshRead};
+ghost use Rattle.payload.specs.Tables.{submeshRows, allPoints, poolTable, coordinateTable, submeshTable, pointTable, bodyRead, tablesSays, tablesAnswer, tablesInto};
+
+// Stores the n pool words.
+fn fill_pool(s: &[u8], n: u32, out: &mut [u32])
+    requires { ⌜ (length (now s) ≤ 67108864) × (32 * n + 32 ≤ 8 * length (now s)) × (n ≤ length (now out)) ⌝ }
+    ensures { λ _. ⌜ now (out .exit) ≡ sets (now (out .entry)) 0 (readWords (now (s .entry)) 32 n) ⌝ }
+{
+    let end = n as usize;
+    let mut i: usize = 0;
+    while i < end {
+        out[i] = word(s, 4 * i + 4);
+        i += 1;
+    }
+}
+
+// Stores a submesh's three words.
+fn put_row(out: &mut [u32], at: usize, texture: u32, mode: u32, points: u32)
+    requires { ⌜ at + 3 ≤ length (now out) ⌝ }
+    ensures { λ _. ⌜ now (out .exit) ≡ sets (now (out .entry)) at (texture ∷ mode ∷ points ∷ []) ⌝ }
+{
+    out[at] = texture;
+    out[at + 1] = mode;
+    out[at + 2] = points;
+}
+
+// Stores the words of count submeshes from bit p on, over m vertices.
+fn fill_rows(s: &[u8], p: usize, m: u32, count: u32, out: &mut [u32])
+    requires { ⌜ (length (now s) ≤ 67108864) × (m ≤ 65536) × (64 ≤ p) × (3 * count ≤ length (now out)) ⌝ }
+    requires { ⌜ WasRead (many (readSubmesh (now s) (widthOf m) m) count p) ⌝ }
+    ensures { λ _. ⌜ now (out .exit) ≡ sets (now (out .entry)) 0 (submeshRows (submeshesRead (many (readSubmesh (now (s .entry)) (widthOf m) m) count p))) ⌝ }
+{
+    let w = bits::bit_width(m) as usize;
+    let mut bit = p;
+    let mut left = count;
+    let mut o: usize = 0;
+    while 0 < left {
+        let texture = one_field(s, bit, 8);
+        let mode = one_field(s, bit + 8, 8);
+        let points = one_field(s, bit + 16, 32);
+        put_row(out, o, texture, mode, points);
+        o += 3;
+        bit += 48 + (points as usize) * w;
+        left -= 1;
+    }
+}
+
+// Stores the rest of a run of vertex numbers, field by field.
+fn fill_run_left(
+    s: &[u8],
+    p: usize,
+    w: usize,
+    m: u32,
+    count: u32,
+    from: VertexNumber,
+    out: &mut [u16],
+    at: usize,
+)
+    requires { ⌜ (length (now s) ≤ 67108864) × (w ≤ 17) × (m ≤ 65536) × (64 ≤ p) × (at + count ≤ length (now out)) ⌝ }
+    requires { ⌜ WasRead (readRun (now s) w m count p (from .0 ∷ [])) ⌝ }
+    ensures { λ _. ⌜ now (out .exit) ≡ sets (now (out .entry)) at (runNumbers (readRun (now (s .entry)) w m count p (from .0 ∷ []))) ⌝ }
+{
+    let mut bit = p;
+    let mut last = from.0;
+    let mut left = count;
+    let mut o = at;
+    while 0 < left {
+        last = bits::stepped(last as u32, one_field(s, bit, w)) as u16;
+        out[o] = last;
+        o += 1;
+        bit += w;
+        left -= 1;
+    }
+}
+
+// Stores three vertex numbers.
+fn put_three(out: &mut [u16], at: usize, a: VertexNumber, b: VertexNumber, c: VertexNumber)
+    requires { ⌜ at + 3 ≤ length (now out) ⌝ }
+    ensures { λ _. ⌜ now (out .exit) ≡ sets (now (out .entry)) at (a .0 ∷ b .0 ∷ c .0 ∷ []) ⌝ }
+{
+    out[at] = a.0;
+    out[at + 1] = b.0;
+    out[at + 2] = c.0;
+}
+
+// Stores a run of vertex numbers: one running number, three fields to a window.
+fn fill_run(s: &[u8], p: usize, w: usize, m: u32, count: u32, out: &mut [u16], at: usize)
+    requires { ⌜ (length (now s) ≤ 67108864) × (w ≤ 17) × (m ≤ 65536) × (64 ≤ p) × (at + count ≤ length (now out)) ⌝ }
+    requires { ⌜ WasRead (readRun (now s) w m count p one) ⌝ }
+    ensures { λ _. ⌜ now (out .exit) ≡ sets (now (out .entry)) at (runNumbers (readRun (now (s .entry)) w m count p one)) ⌝ }
+{
+    let mut bit = p;
+    let mut last: u16 = 0;
+    let mut left = count;
+    let mut o = at;
+    while 3 <= left {
+        let f = three_fields(s, bit, w);
+        let a = bits::stepped(last as u32, f.a) as u16;
+        let b = bits::stepped(a as u32, f.b) as u16;
+        last = bits::stepped(b as u32, f.c) as u16;
+        put_three(out, o, VertexNumber(a), VertexNumber(b), VertexNumber(last));
+        o += 3;
+        bit += 3 * w;
+        left -= 3;
+    }
+    fill_run_left(s, bit, w, m, left, VertexNumber(last), out, o);
+}
+
+// Stores the vertex numbers of the points of count submeshes from bit p on, over m vertices.
+fn fill_points(s: &[u8], p: usize, m: u32, count: u32, out: &mut [u16])
+    requires { ⌜ (length (now s) ≤ 67108864) × (m ≤ 65536) × (64 ≤ p) × (length (allPoints (submeshesRead (many (readSubmesh (now s) (widthOf m) m) count p))) ≤ length (now out)) ⌝ }
+    requires { ⌜ WasRead (many (readSubmesh (now s) (widthOf m) m) count p) ⌝ }
+    ensures { λ _. ⌜ now (out .exit) ≡ sets (now (out .entry)) 0 (allPoints (submeshesRead (many (readSubmesh (now (s .entry)) (widthOf m) m) count p))) ⌝ }
+{
+    let w = bits::bit_width(m) as usize;
+    let mut bit = p;
+    let mut left = count;
+    let mut o: usize = 0;
+    while 0 < left {
+        let n = one_field(s, bit + 16, 32);
+        fill_run(s, bit + 48, w, m, n, out, o);
+        o += n as usize;
+        bit += 48 + (n as usize) * w;
+        left -= 1;
+    }
+}
+
+// Stores the four tables of a mesh.
+fn fill_tables(
+    s: &[u8],
+    pool: &mut [u32],
+    coordinates: &mut [u16],
+    submeshes: &mut [u32],
+    points: &mut [u16],
+)
+    requires { ⌜ (length (now s) ≤ 67108864) × WasRead (readMesh (now s)) × (length (poolTable (meshRead (now s))) ≤ length (now pool)) × (length (coordinateTable (meshRead (now s))) ≤ length (now coordinates)) × (length (submeshTable (meshRead (now s))) ≤ length (now submeshes)) × (length (pointTable (meshRead (now s))) ≤ length (now points)) ⌝ }
+    ensures { λ _. ⌜ now (pool .exit) ≡ sets (now (pool .entry)) 0 (poolTable (meshRead (now (s .entry)))) ⌝ }
+    ensures { λ _. ⌜ now (coordinates .exit) ≡ sets (now (coordinates .entry)) 0 (coordinateTable (meshRead (now (s .entry)))) ⌝ }
+    ensures { λ _. ⌜ now (submeshes .exit) ≡ sets (now (submeshes .entry)) 0 (submeshTable (meshRead (now (s .entry)))) ⌝ }
+    ensures { λ _. ⌜ now (points .exit) ≡ sets (now (points .entry)) 0 (pointTable (meshRead (now (s .entry)))) ⌝ }
+{
+    let h = mesh_head(s);
+    fill_pool(s, h.coordinates, pool);
+    fill_vertices(
+        s,
+        32 * (h.coordinates as usize) + 64,
+        h.width,
+        h.coordinates,
+        h.vertices,
+        coordinates,
+        0,
+    );
+    fill_rows(s, h.first, h.vertices, h.submeshes, submeshes);
+    fill_points(s, h.first, h.vertices, h.submeshes, points);
+}
+
+// What reading a mesh body answers: the used lengths of the four tables, or the lengths that they need, or the number of a refusal.
+pub enum MeshAnswer {
+    Tables(TableLengths),
+    Needs(TableLengths),
+    Declined(u8),
+}
+
+// Reads a mesh body into tables: 2, then 3, 7 and 8 in field order, then 12. Unless it answers `Tables`, the buffers stay as they were.
+pub fn parse_mesh(
+    body: &[u8],
+    pool: &mut [u32],
+    coordinates: &mut [u16],
+    submeshes: &mut [u32],
+    points: &mut [u16],
+) -> MeshAnswer
+    ensures { λ r. ⌜ tablesSays r ≡ andThen (bodyRead (now (body .entry))) (λ x. tablesAnswer x (length (now (pool .entry))) (length (now (coordinates .entry))) (length (now (submeshes .entry))) (length (now (points .entry)))) ⌝ }
+    ensures { λ _. ⌜ now (pool .exit) ≡ tablesInto poolTable (bodyRead (now (body .entry))) (length (now (pool .entry))) (length (now (coordinates .entry))) (length (now (submeshes .entry))) (length (now (points .entry))) (now (pool .entry)) ⌝ }
+    ensures { λ _. ⌜ now (coordinates .exit) ≡ tablesInto coordinateTable (bodyRead (now (body .entry))) (length (now (pool .entry))) (length (now (coordinates .entry))) (length (now (submeshes .entry))) (length (now (points .entry))) (now (coordinates .entry)) ⌝ }
+    ensures { λ _. ⌜ now (submeshes .exit) ≡ tablesInto submeshTable (bodyRead (now (body .entry))) (length (now (pool .entry))) (length (now (coordinates .entry))) (length (now (submeshes .entry))) (length (now (points .entry))) (now (submeshes .entry)) ⌝ }
+    ensures { λ _. ⌜ now (points .exit) ≡ tablesInto pointTable (bodyRead (now (body .entry))) (length (now (pool .entry))) (length (now (coordinates .entry))) (length (now (submeshes .entry))) (length (now (points .entry))) (now (points .entry)) ⌝ }
+{
+    match measure_mesh(body) {
+        MeshMeasured::Declined(k) => MeshAnswer::Declined(k),
+        MeshMeasured::Lengths(n) => {
+            if pool.len() < n.pool {
+                return MeshAnswer::Needs(n);
+            }
+            if coordinates.len() < n.coordinates {
+                return MeshAnswer::Needs(n);
+            }
+            if submeshes.len() < n.submeshes {
+                return MeshAnswer::Needs(n);
+            }
+            if points.len() < n.points {
+                return MeshAnswer::Needs(n);
+            }
+            fill_tables(body, pool, coordinates, submeshes, points);
+            MeshAnswer::Tables(n)
+        }
+    }
+}

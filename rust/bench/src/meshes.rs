@@ -1,0 +1,136 @@
+//! Times of `parse_meshes` on lists of large and of tiny meshes.
+
+use std::hint::black_box;
+
+use reference::mesh;
+
+use crate::mesh_lists::{large, repeated, tiny, Steps};
+use crate::timing::medians;
+
+const MIB: usize = 1 << 20;
+/// Bytes that one mesh with four large submeshes fits into, and two do not.
+const ONE_LARGE: usize = 2 * MIB;
+const RUNS: usize = 15;
+/// Mebibytes of the lists that grow, and the runs for each.
+const GROWING: [(usize, usize); 4] = [(1, 15), (4, 9), (16, 5), (64, 3)];
+
+const HEADING: [&str; 5] = [
+    "parse_meshes, ours with three buffers of exactly the needed lengths, allocated once outside",
+    "the timing and warm; the time has our own measuring pass, and the Rust's allocating and",
+    "freeing of its answer; a large mesh has 10000 coordinates, 32000 vertices and submeshes of",
+    "128000 points, a tiny one 4, 6 and one of 12; both sides gave the same drawing before;",
+    "medians of the runs, ratio = ours / rust",
+];
+
+struct Buffers {
+    numbers: Vec<u16>,
+    floats: Vec<u32>,
+    records: Vec<u32>,
+}
+
+pub fn table() -> Result<(), String> {
+    println!();
+    for line in HEADING {
+        println!("{line}");
+    }
+    println!(
+        "{:<26} {:>8} {:>8} {:>4} {:>8} {:>8} {:>9} {:>9} {:>6}",
+        "list", "bytes", "points", "runs", "rust_ms", "ours_ms", "rust_ns/B", "ours_ns/B", "ratio"
+    );
+    for (name, steps) in [
+        ("1 large, small steps", Steps::Small),
+        ("1 large, random steps", Steps::Random),
+    ] {
+        row(name, &repeated(large(steps, 4), ONE_LARGE), RUNS)?;
+    }
+    row("tiny ones", &repeated(tiny(), MIB), RUNS)?;
+    for (mebibytes, runs) in GROWING {
+        let payload = repeated(large(Steps::Small, 2), mebibytes * MIB);
+        row(&format!("large ones in {mebibytes} MiB"), &payload, runs)?;
+    }
+    Ok(())
+}
+
+fn row(name: &str, payload: &[u8], runs: usize) -> Result<(), String> {
+    let mut buffers = needed(payload).ok_or(format!("not measured: {name}"))?;
+    let points = ours(payload, &mut buffers);
+    if points.is_none() || !same(payload, &buffers) {
+        return Err(format!("the drawings differ: {name}"));
+    }
+    let (rust, ours) = medians(
+        runs,
+        buffers,
+        |_| rust(black_box(payload)),
+        |buffers| ours(black_box(payload), buffers),
+    );
+    let bytes = payload.len();
+    let per_byte = |time: f64| time / bytes as f64;
+    println!(
+        "{name:<26} {bytes:>8} {:>8} {runs:>4} {:>8.2} {:>8.2} {:>9.3} {:>9.3} {:>6.3}",
+        points.unwrap_or(0),
+        rust / 1e6,
+        ours / 1e6,
+        per_byte(rust),
+        per_byte(ours),
+        ours / rust
+    );
+    Ok(())
+}
+
+fn needed(payload: &[u8]) -> Option<Buffers> {
+    let mut words = [0; 6];
+    if probe_sys::measure_meshes(payload, &mut words) != 6 {
+        return None;
+    }
+    let [.., numbers, floats, records] = words.map(|n| n as usize);
+    Some(Buffers {
+        numbers: vec![0; numbers],
+        floats: vec![0; floats],
+        records: vec![0; records],
+    })
+}
+
+/// The number of points.
+fn rust(payload: &[u8]) -> Option<u64> {
+    let meshes = mesh::parse_meshes(payload)?;
+    let submeshes = meshes.iter().flat_map(|mesh| &mesh.submeshes);
+    Some(submeshes.map(|submesh| submesh.vertex_count() as u64).sum())
+}
+
+/// The number of points.
+fn ours(payload: &[u8], buffers: &mut Buffers) -> Option<u64> {
+    let Buffers {
+        numbers,
+        floats,
+        records,
+    } = buffers;
+    let mut words = [0; 8];
+    let code = probe_sys::parse_meshes(payload, numbers, floats, records, &mut words);
+    (code == 6).then_some(words[2])
+}
+
+/// Whether the Rust draws what is in the buffers.
+fn same(payload: &[u8], buffers: &Buffers) -> bool {
+    let Some(meshes) = mesh::parse_meshes(payload) else {
+        return false;
+    };
+    let mut records = buffers.records.chunks_exact(5);
+    let mut floats = &buffers.floats[..];
+    for (number, mesh) in meshes.iter().enumerate() {
+        for submesh in &mesh.submeshes {
+            let points = submesh.vertex_count();
+            let first = (buffers.floats.len() - floats.len()) / 5;
+            let (texture, mode) = (submesh.texture_id.into(), submesh.mode.into());
+            let record = [number as u32, texture, mode, first as u32, points as u32];
+            let Some((drawn, rest)) = floats.split_at_checked(5 * points) else {
+                return false;
+            };
+            let due = submesh.vertices.iter().map(|x| x.to_bits());
+            if records.next() != Some(&record[..]) || !due.eq(drawn.iter().copied()) {
+                return false;
+            }
+            floats = rest;
+        }
+    }
+    floats.is_empty() && records.next().is_none()
+}
