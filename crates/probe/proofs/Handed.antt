@@ -35,10 +35,15 @@ module _ {z : ℤ} {l : List ℕ} (d : List ℕ) where
   pub handed-one : {n m : ℕ} → mag z < 2 ^ 63 → Tells z d l (accepted (one n)) → n ≡ m → Tells (toZ w64 (ofZ w64 z)) d l (accepted (one m))
   handed-one small e n = handed-value one small e refl n
 
-  -- it was made of what a call that fills a buffer answered; o is what that call left of the buffer
-  pub handed-filled : {v : Verdict (List ℕ)} {w u : Verdict ℕ} {o p : List ℕ} → mag z < 2 ^ 63 → Tells z d l v → v ≡ told one w → (w ≡ u) × (o ≡ p)
-      → (toZ w64 (ofZ w64 z) ≡ answers (told one u)) × ((l ≡ leaves d (told one u)) × (o ≡ p))
-  handed-filled small e v w = let h = handed-told one small e v (w .0) in (h .0, (h .1, w .1))
+  -- it was made of what a call with lent buffers answered; R is what that call left in them
+  pub handed-with : {A R : Type 0} (f : A → List ℕ) {v : Verdict (List ℕ)} {w u : Verdict A} → mag z < 2 ^ 63 → Tells z d l v → v ≡ told f w → (w ≡ u) × R
+      → (toZ w64 (ofZ w64 z) ≡ answers (told f u)) × ((l ≡ leaves d (told f u)) × R)
+  handed-with f small e v w = let h = handed-told f small e v (w .0) in (h .0, (h .1, w .1))
+
+  -- and of one that fills a single buffer
+  pub handed-filled : {R : Type 0} {v : Verdict (List ℕ)} {w u : Verdict ℕ} → mag z < 2 ^ 63 → Tells z d l v → v ≡ told one w → (w ≡ u) × R
+      → (toZ w64 (ofZ w64 z) ≡ answers (told one u)) × ((l ≡ leaves d (told one u)) × R)
+  handed-filled = handed-with one
 
 -- a call that was made for its width, and one that was not
 pub narrow-made : {A : Type 0} (width : ℕ) (made not-made : A) → width ≤ 32 → made ≡ narrow width made not-made

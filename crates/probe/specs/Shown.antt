@@ -7,6 +7,8 @@ use lib.Ieee.{Float}
 use Rattle.bits.specs.Float.{bitsOf}
 use Rattle.payload.specs.declared.crop.Bounds.{Bounds}
 use Rattle.payload.specs.declared.equi.EquiFields.{EquiFields}
+use Rattle.payload.specs.declared.mesh.measure.MeshListSize.{MeshListSize}
+use Rattle.payload.specs.declared.mesh.measure.TableLengths.{TableLengths}
 use Rattle.payload.specs.declared.view.StereoLayout.{StereoLayout}
 use Rattle.payload.specs.declared.view.StereoLayout.the-variants as S
 use Rattle.payload.specs.declared.view.AnaglyphPair.{AnaglyphPair}
@@ -60,3 +62,15 @@ projectionNumber P.Cubemap = 3
 
 abbrev pub eyeOf : ℕ → Eye
 eyeOf n = cond (eqb n 0) Left Right
+
+-- ---- mesh lists and mesh bodies
+
+-- meshes, submeshes and points, then the lengths of the three lists
+abbrev pub sizeWords : MeshListSize → List ℕ
+sizeWords n = n .meshes ∷ n .submeshes ∷ n .points ∷ n .numbers ∷ n .floats ∷ n .records ∷ []
+
+abbrev pub countWords : ℕ × ℕ × ℕ → List ℕ
+countWords v = v .0 ∷ v .1 ∷ v .2 ∷ []
+
+abbrev pub tableWords : TableLengths → List ℕ
+tableWords n = n .pool ∷ n .coordinates ∷ n .submeshes ∷ n .points ∷ []

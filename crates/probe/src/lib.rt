@@ -5,6 +5,7 @@ mod counts;
 mod crops;
 mod fields;
 mod grids;
+mod meshes;
 mod numbers;
 mod put;
 mod reply;

@@ -21,9 +21,12 @@ pub enum Reply {
     Two(u64, u64),
     Three(u64, u64, u64),
     Four(u64, u64, u64, u64),
+    Six(u64, u64, u64, u64, u64, u64),
     Eight(u64, u64, u64, u64, u64, u64, u64, u64),
-    // A buffer needs this length.
+    // The buffers need these lengths.
     Needs(u64),
+    NeedsThree(u64, u64, u64),
+    NeedsFour(u64, u64, u64, u64),
     // The number of a refusal.
     Declined(u8),
 }
@@ -65,12 +68,24 @@ pub fn tell(words: &mut [u64], reply: Reply) -> i64
             store(words, &[a, b, c, d]);
             4
         }
+        Reply::Six(a, b, c, d, e, f) => {
+            store(words, &[a, b, c, d, e, f]);
+            6
+        }
         Reply::Eight(a, b, c, d, e, f, g, h) => {
             store(words, &[a, b, c, d, e, f, g, h]);
             8
         }
         Reply::Needs(n) => {
             store(words, &[n]);
+            -12
+        }
+        Reply::NeedsThree(a, b, c) => {
+            store(words, &[a, b, c]);
+            -12
+        }
+        Reply::NeedsFour(a, b, c, d) => {
+            store(words, &[a, b, c, d]);
             -12
         }
         Reply::Declined(k) => -(k as i64),

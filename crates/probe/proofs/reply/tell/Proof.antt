@@ -68,11 +68,38 @@ store-requires-6 c κs = search needs
 enum-known-reply-7 : tie.Need-enum-known-reply-7
 enum-known-reply-7 c = search needs
 
+slice-aggregate-store-7 : tie.Need-slice-aggregate-store-7
+slice-aggregate-store-7 c = search needs
+
+store-requires-7 : tie.Need-store-requires-7
+store-requires-7 c κs = search needs
+
+enum-known-reply-8 : tie.Need-enum-known-reply-8
+enum-known-reply-8 c = search needs
+
+slice-aggregate-store-8 : tie.Need-slice-aggregate-store-8
+slice-aggregate-store-8 c = search needs
+
+store-requires-8 : tie.Need-store-requires-8
+store-requires-8 c κs = search needs
+
+enum-known-reply-9 : tie.Need-enum-known-reply-9
+enum-known-reply-9 c = search needs
+
+slice-aggregate-store-9 : tie.Need-slice-aggregate-store-9
+slice-aggregate-store-9 c = search needs
+
+store-requires-9 : tie.Need-store-requires-9
+store-requires-9 c κs = search needs
+
+enum-known-reply-10 : tie.Need-enum-known-reply-10
+enum-known-reply-10 c = search needs
+
 cast-result : tie.Need-cast-result
 cast-result c = search needs
 
 sub-result : tie.Need-sub-result
-sub-result c = below-fits (c .before .reply7 .given .0 .0) (omega arith)
+sub-result c = below-fits (c .before .reply10 .given .0 .0) (omega arith)
 
 returns : tie.Need-returns
 returns c = tells-words _ _ [] (ap says (c .enum-told .given .1)) (stored-none _)
@@ -111,10 +138,28 @@ same-length-6 : tie.Need-same-length-6
 same-length-6 c = search needs
 
 returns-7 : tie.Need-returns-7
-returns-7 c = tells-needs _ _ _ (ap says (c .before .before .before .before .before .before .reply6 .given .1)) (c .before .before .store6 .ensures)
+returns-7 c = tells-words _ _ _ (ap says (c .before .before .before .before .before .before .reply6 .given .1)) (c .before .before .store6 .ensures)
+
+same-length-7 : tie.Need-same-length-7
+same-length-7 c = search needs
 
 returns-8 : tie.Need-returns-8
-returns-8 c = tells-declined (c .before .reply7 .given .0 .0) (omega arith) _ (ap says (c .before .reply7 .given .1))
+returns-8 c = tells-needs _ _ _ (ap says (c .before .before .before .before .before .before .reply7 .given .1)) (c .before .before .store7 .ensures)
+
+same-length-8 : tie.Need-same-length-8
+same-length-8 c = search needs
+
+returns-9 : tie.Need-returns-9
+returns-9 c = tells-needs _ _ _ (ap says (c .before .before .before .before .before .before .reply8 .given .1)) (c .before .before .store8 .ensures)
+
+same-length-9 : tie.Need-same-length-9
+same-length-9 c = search needs
+
+returns-10 : tie.Need-returns-10
+returns-10 c = tells-needs _ _ _ (ap says (c .before .before .before .before .before .before .reply9 .given .1)) (c .before .before .store9 .ensures)
+
+returns-11 : tie.Need-returns-11
+returns-11 c = tells-declined (c .before .reply10 .given .0 .0) (omega arith) _ (ap says (c .before .reply10 .given .1))
 
 pub tell-spec : {M : Type 1} → statement M
 tell-spec =
@@ -140,6 +185,15 @@ tell-spec =
     slice-aggregate-store-6
     store-requires-6
     enum-known-reply-7
+    slice-aggregate-store-7
+    store-requires-7
+    enum-known-reply-8
+    slice-aggregate-store-8
+    store-requires-8
+    enum-known-reply-9
+    slice-aggregate-store-9
+    store-requires-9
+    enum-known-reply-10
     cast-result
     sub-result
     returns
@@ -155,4 +209,10 @@ tell-spec =
     returns-6
     same-length-6
     returns-7
-    returns-8)
+    same-length-7
+    returns-8
+    same-length-8
+    returns-9
+    same-length-9
+    returns-10
+    returns-11)

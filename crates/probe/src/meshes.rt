@@ -1,0 +1,149 @@
+// The calls on mesh lists and mesh bodies.
+use super::reply::Reply;
+use super::reply::tell;
+use payload::Measured;
+use payload::MeshAnswer;
+use payload::MeshListSize;
+use payload::MeshesAnswer;
+use payload::RecordsAnswer;
+use payload::TableLengths;
+ghost use mathlib.Core.Path.{_≡_};
+ghost use lib.ListN.{length};
+ghost use Rattle.bits.specs.Verdict.{accepted, mapped, andThen};
+ghost use Rattle.payload.specs.Fill.{front};
+ghost use Rattle.payload.specs.Payload.{limited};
+ghost use Rattle.payload.specs.MeshRead.{readMeshes};
+ghost use Rattle.payload.specs.MeshDrawing.{drawnNumbers, drawnFloats, drawnRecords};
+ghost use Rattle.payload.specs.Meshes.{listSize, measuredSays, meshesSays, meshesAnswer, drawnInto, recordsSays, recordsAnswer};
+ghost use Rattle.payload.specs.Tables.{poolTable, coordinateTable, submeshTable, pointTable, bodyRead, tablesSays, tablesAnswer, tablesInto};
+ghost use Rattle.probe.specs.Answer.{answers, leaves, told, says};
+ghost use Rattle.probe.specs.Shown.{sizeWords, countWords, tableWords};
+
+fn of_size(n: MeshListSize) -> Reply
+    ensures { λ r. ⌜ says r ≡ accepted (sizeWords n) ⌝ }
+{
+    Reply::Six(
+        n.meshes as u64,
+        n.submeshes as u64,
+        n.points as u64,
+        n.numbers as u64,
+        n.floats as u64,
+        n.records as u64,
+    )
+}
+
+fn of_measured(x: Measured) -> Reply
+    ensures { λ r. ⌜ says r ≡ told sizeWords (measuredSays x) ⌝ }
+{
+    match x {
+        Measured::Size(n) => of_size(n),
+        Measured::Declined(k) => Reply::Declined(k),
+    }
+}
+
+fn of_meshes(x: MeshesAnswer) -> Reply
+    ensures { λ r. ⌜ says r ≡ told sizeWords (meshesSays x) ⌝ }
+{
+    match x {
+        MeshesAnswer::Drawn(n) => of_size(n),
+        MeshesAnswer::Needs {
+            numbers,
+            floats,
+            records,
+        } => Reply::NeedsThree(numbers as u64, floats as u64, records as u64),
+        MeshesAnswer::Declined(k) => Reply::Declined(k),
+    }
+}
+
+fn of_records(x: RecordsAnswer) -> Reply
+    ensures { λ r. ⌜ says r ≡ told countWords (recordsSays x) ⌝ }
+{
+    match x {
+        RecordsAnswer::Counts {
+            meshes,
+            submeshes,
+            points,
+        } => Reply::Three(meshes as u64, submeshes as u64, points as u64),
+        RecordsAnswer::Needs(n) => Reply::Needs(n as u64),
+        RecordsAnswer::Declined(k) => Reply::Declined(k),
+    }
+}
+
+fn of_tables(x: MeshAnswer) -> Reply
+    ensures { λ r. ⌜ says r ≡ told tableWords (tablesSays x) ⌝ }
+{
+    match x {
+        MeshAnswer::Tables(n) => Reply::Four(
+            n.pool as u64,
+            n.coordinates as u64,
+            n.submeshes as u64,
+            n.points as u64,
+        ),
+        MeshAnswer::Needs(n) => Reply::NeedsFour(
+            n.pool as u64,
+            n.coordinates as u64,
+            n.submeshes as u64,
+            n.points as u64,
+        ),
+        MeshAnswer::Declined(k) => Reply::Declined(k),
+    }
+}
+
+#[no_mangle]
+pub extern "C" fn probe_measure_meshes(payload: &[u8], words: &mut [u64]) -> i64
+    ensures { λ r. ⌜ r ≡ answers (told sizeWords (limited (now (payload .entry)) (mapped listSize (readMeshes (now (payload .entry)))))) ⌝ }
+    ensures { λ _. ⌜ now (words .exit) ≡ leaves (now (words .entry)) (told sizeWords (limited (now (payload .entry)) (mapped listSize (readMeshes (now (payload .entry)))))) ⌝ }
+{
+    tell(words, of_measured(payload::measure_meshes(payload)))
+}
+
+#[no_mangle]
+pub extern "C" fn probe_mesh_records(payload: &[u8], records: &mut [u32], words: &mut [u64]) -> i64
+    ensures { λ r. ⌜ r ≡ answers (told countWords (recordsAnswer (now (payload .entry)) (length (now (records .entry))))) ⌝ }
+    ensures { λ _. ⌜ now (words .exit) ≡ leaves (now (words .entry)) (told countWords (recordsAnswer (now (payload .entry)) (length (now (records .entry))))) ⌝ }
+    ensures { λ _. ⌜ now (records .exit) ≡ front (mapped drawnRecords (limited (now (payload .entry)) (readMeshes (now (payload .entry))))) (now (records .entry)) ⌝ }
+{
+    tell(words, of_records(payload::mesh_records(payload, records)))
+}
+
+#[no_mangle]
+pub extern "C" fn probe_parse_meshes(
+    payload: &[u8],
+    numbers: &mut [u16],
+    floats: &mut [u32],
+    records: &mut [u32],
+    words: &mut [u64],
+) -> i64
+    ensures { λ r. ⌜ r ≡ answers (told sizeWords (meshesAnswer (now (payload .entry)) (length (now (numbers .entry))) (length (now (floats .entry))) (length (now (records .entry))))) ⌝ }
+    ensures { λ _. ⌜ now (words .exit) ≡ leaves (now (words .entry)) (told sizeWords (meshesAnswer (now (payload .entry)) (length (now (numbers .entry))) (length (now (floats .entry))) (length (now (records .entry))))) ⌝ }
+    ensures { λ _. ⌜ now (numbers .exit) ≡ drawnInto drawnNumbers (limited (now (payload .entry)) (readMeshes (now (payload .entry)))) (length (now (numbers .entry))) (length (now (floats .entry))) (length (now (records .entry))) (now (numbers .entry)) ⌝ }
+    ensures { λ _. ⌜ now (floats .exit) ≡ drawnInto drawnFloats (limited (now (payload .entry)) (readMeshes (now (payload .entry)))) (length (now (numbers .entry))) (length (now (floats .entry))) (length (now (records .entry))) (now (floats .entry)) ⌝ }
+    ensures { λ _. ⌜ now (records .exit) ≡ drawnInto drawnRecords (limited (now (payload .entry)) (readMeshes (now (payload .entry)))) (length (now (numbers .entry))) (length (now (floats .entry))) (length (now (records .entry))) (now (records .entry)) ⌝ }
+{
+    tell(
+        words,
+        of_meshes(payload::parse_meshes(payload, numbers, floats, records)),
+    )
+}
+
+#[no_mangle]
+pub extern "C" fn probe_parse_mesh(
+    body: &[u8],
+    pool: &mut [u32],
+    coordinates: &mut [u16],
+    submeshes: &mut [u32],
+    points: &mut [u16],
+    words: &mut [u64],
+) -> i64
+    ensures { λ r. ⌜ r ≡ answers (told tableWords (andThen (bodyRead (now (body .entry))) (λ x. tablesAnswer x (length (now (pool .entry))) (length (now (coordinates .entry))) (length (now (submeshes .entry))) (length (now (points .entry)))))) ⌝ }
+    ensures { λ _. ⌜ now (words .exit) ≡ leaves (now (words .entry)) (told tableWords (andThen (bodyRead (now (body .entry))) (λ x. tablesAnswer x (length (now (pool .entry))) (length (now (coordinates .entry))) (length (now (submeshes .entry))) (length (now (points .entry)))))) ⌝ }
+    ensures { λ _. ⌜ now (pool .exit) ≡ tablesInto poolTable (bodyRead (now (body .entry))) (length (now (pool .entry))) (length (now (coordinates .entry))) (length (now (submeshes .entry))) (length (now (points .entry))) (now (pool .entry)) ⌝ }
+    ensures { λ _. ⌜ now (coordinates .exit) ≡ tablesInto coordinateTable (bodyRead (now (body .entry))) (length (now (pool .entry))) (length (now (coordinates .entry))) (length (now (submeshes .entry))) (length (now (points .entry))) (now (coordinates .entry)) ⌝ }
+    ensures { λ _. ⌜ now (submeshes .exit) ≡ tablesInto submeshTable (bodyRead (now (body .entry))) (length (now (pool .entry))) (length (now (coordinates .entry))) (length (now (submeshes .entry))) (length (now (points .entry))) (now (submeshes .entry)) ⌝ }
+    ensures { λ _. ⌜ now (points .exit) ≡ tablesInto pointTable (bodyRead (now (body .entry))) (length (now (pool .entry))) (length (now (coordinates .entry))) (length (now (submeshes .entry))) (length (now (points .entry))) (now (points .entry)) ⌝ }
+{
+    tell(
+        words,
+        of_tables(payload::parse_mesh(body, pool, coordinates, submeshes, points)),
+    )
+}
