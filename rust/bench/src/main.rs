@@ -1,4 +1,7 @@
 //! Times of the reference and of libprobe.a on the same data, the two sides in turn.
+//!
+//! `bench` prints the tables. `bench once rust|ours small|random|tiny` runs one side once, in `meshes::counted`, for an
+//! instruction counter.
 
 mod fields;
 mod fills;
@@ -10,12 +13,22 @@ mod timing;
 use std::process::ExitCode;
 
 fn main() -> ExitCode {
-    let tables = [fields::table, fills::table, meshes::table];
-    match tables.iter().try_for_each(|table| table()) {
+    let words: Vec<String> = std::env::args().skip(1).collect();
+    match run(&words.iter().map(String::as_str).collect::<Vec<_>>()) {
         Ok(()) => ExitCode::SUCCESS,
         Err(message) => {
             eprintln!("bench: {message}");
             ExitCode::FAILURE
         }
+    }
+}
+
+fn run(words: &[&str]) -> Result<(), String> {
+    match words {
+        [] => [fields::table, fills::table, meshes::table]
+            .iter()
+            .try_for_each(|table| table()),
+        ["once", side, list] => meshes::once(side, list),
+        _ => Err("asked for neither the tables nor `once SIDE LIST`".to_string()),
     }
 }

@@ -51,6 +51,30 @@ pub fn table() -> Result<(), String> {
     Ok(())
 }
 
+/// Runs one side once on one of the first three lists.
+pub fn once(side: &str, list: &str) -> Result<(), String> {
+    let payload = match list {
+        "small" => repeated(large(Steps::Small, 4), ONE_LARGE),
+        "random" => repeated(large(Steps::Random, 4), ONE_LARGE),
+        "tiny" => repeated(tiny(), MIB),
+        _ => return Err(format!("no list {list}")),
+    };
+    let mut buffers = needed(&payload).ok_or("not measured".to_string())?;
+    let points = counted(side, &payload, &mut buffers);
+    println!("{side} {list}: {points:?} points");
+    Ok(())
+}
+
+/// Under a name of its own, for an instruction counter to start and stop at.
+#[inline(never)]
+fn counted(side: &str, payload: &[u8], buffers: &mut Buffers) -> Option<u64> {
+    match side {
+        "rust" => rust(payload),
+        "ours" => ours(payload, buffers),
+        _ => None,
+    }
+}
+
 fn row(name: &str, payload: &[u8], runs: usize) -> Result<(), String> {
     let mut buffers = needed(payload).ok_or(format!("not measured: {name}"))?;
     let points = ours(payload, &mut buffers);
