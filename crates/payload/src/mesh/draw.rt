@@ -347,10 +347,10 @@ fn record_mesh(s: &[u8], records: &mut [u32], to: RecordPlace) -> RecordPlace
     ensures { λ _. ⌜ now (records .exit) ≡ sets (now (records .entry)) (to .off) (recordsFrom (to .mesh) (to .first) (meshRead (now (s .entry)) ∷ [])) ⌝ }
 {
     let h = mesh_head(s);
-    let first = fill_records(s, h.first, h.vertices, h.submeshes, records, to);
+    let next = fill_records(s, h.first, h.vertices, h.submeshes, records, to);
     RecordPlace {
         mesh: to.mesh + 1,
-        first,
+        first: next,
         off: to.off + 5 * (h.submeshes as usize),
     }
 }

@@ -1,6 +1,7 @@
 // The validating pass over a mesh list: it answers every refusal but 12, and how long the drawing is, and touches nothing.
 use super::Five;
 use super::MESH;
+use super::VertexNumber;
 use super::kept;
 use super::one_field;
 use super::step_five;
@@ -43,13 +44,20 @@ enum RunEnd {
 }
 
 // The rest of a run of vertex numbers, field by field.
-fn check_points_left(s: &[u8], p: usize, w: usize, limit: u32, count: u32, from: u32) -> RunEnd
+fn check_points_left(
+    s: &[u8],
+    p: usize,
+    w: usize,
+    limit: u32,
+    count: u32,
+    from: VertexNumber,
+) -> RunEnd
     requires { ⌜ (length (now s) ≤ 67108864) × (w ≤ 17) × (limit ≤ 65536) × (64 ≤ p) × (p ≤ 8 * length (now s)) ⌝ }
-    ensures { λ r. ⌜ runSays r ≡ mapped placeOf (readRun (now (s .entry)) w limit count p (from ∷ [])) ⌝ }
+    ensures { λ r. ⌜ runSays r ≡ mapped placeOf (readRun (now (s .entry)) w limit count p (from .0 ∷ [])) ⌝ }
 {
     let end = s.len() * 8;
     let mut bit = p;
-    let mut last = from;
+    let mut last = from.0 as u32;
     let mut left = count;
     while 0 < left {
         if end - bit < w {
@@ -78,7 +86,7 @@ fn check_points(s: &[u8], p: usize, w: usize, limit: u32, count: u32) -> RunEnd
     let mut left = count;
     while 3 <= left {
         if end - bit < group {
-            return check_points_left(s, bit, w, limit, left, last);
+            return check_points_left(s, bit, w, limit, left, VertexNumber(last as u16));
         }
         let f = three_fields(s, bit, w);
         let a = bits::stepped(last, f.a);
@@ -97,7 +105,7 @@ fn check_points(s: &[u8], p: usize, w: usize, limit: u32, count: u32) -> RunEnd
         bit += group;
         left -= 3;
     }
-    check_points_left(s, bit, w, limit, left, last)
+    check_points_left(s, bit, w, limit, left, VertexNumber(last as u16))
 }
 
 // The rest of a run of coordinate numbers, field by field.

@@ -1,5 +1,5 @@
 -- `check_points` meets its contract. The invariant: the answer from here on is the whole answer. Assumes nothing.
-use Prim.Native.Nat.{_*_, _≤_}
+use Prim.Native.Nat.{_*_, _≤_, _<_}
 use mathlib.Core.Path.{_≡_, refl, sym, _∙_}
 use mathlib.Core.List.{[], _∷_}
 use native.Mathlib.Omega.{arith}
@@ -14,7 +14,7 @@ use Rattle.payload.proofs.mesh.measure.check_points.Tie as tie
 
 abbrev Inv-loop : tie.InvT-loop
 Inv-loop s p w limit count end group bit₀ last₀ left₀ bit last left =
-    (mapped placeOf (readRun s w limit count p one) ≡ mapped placeOf (readRun s w limit left bit (last ∷ []))) × (64 ≤ bit) × (bit ≤ 8 * length s)
+    (mapped placeOf (readRun s w limit count p one) ≡ mapped placeOf (readRun s w limit left bit (last ∷ []))) × (64 ≤ bit) × (bit ≤ 8 * length s) × (last < 65536)
 
 abbrev μ-loop : tie.MeasureT-loop
 μ-loop s p w limit count end group bit₀ last₀ left₀ bit last left = left
@@ -26,10 +26,13 @@ mul-group : tie.Need-mul-group Inv-loop μ-loop
 mul-group c = omega arith
 
 loop-holds : tie.Need-loop-holds Inv-loop μ-loop
-loop-holds c = (refl, omega arith, omega arith)
+loop-holds c = (refl, omega arith, omega arith, omega arith)
 
 sub-if1 : tie.Need-sub-if1 Inv-loop μ-loop
 sub-if1 c = omega arith
+
+cast-t18 : tie.Need-cast-t18 Inv-loop μ-loop
+cast-t18 c = omega arith
 
 check-points-left-requires : tie.Need-check-points-left-requires Inv-loop μ-loop
 check-points-left-requires c κs = omega arith
@@ -100,7 +103,11 @@ loop-again c =
           (omega arith) (omega arith) (cc) (omega arith) (cc) (omega arith) (cc) (omega arith),
       omega arith,
       omega arith,
+      omega arith,
     )
+
+cast-t22 : tie.Need-cast-t22 Inv-loop μ-loop
+cast-t22 c = omega arith
 
 check-points-left-requires-2 : tie.Need-check-points-left-requires-2 Inv-loop μ-loop
 check-points-left-requires-2 c κs = omega arith
@@ -118,6 +125,7 @@ check-points-spec =
     mul-group
     loop-holds
     sub-if1
+    cast-t18
     check-points-left-requires
     returns
     three-fields-requires
@@ -133,5 +141,6 @@ check-points-spec =
     add-bit
     loop-less
     loop-again
+    cast-t22
     check-points-left-requires-2
     returns-5)

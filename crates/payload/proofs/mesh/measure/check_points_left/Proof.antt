@@ -13,14 +13,17 @@ use Rattle.payload.proofs.mesh.measure.check_points_left.Statement.{sta
 use Rattle.payload.proofs.mesh.measure.check_points_left.Tie as tie
 
 abbrev Inv-loop : tie.InvT-loop
-Inv-loop s p w limit count from end bit₀ last₀ left₀ bit last left =
-    (mapped placeOf (readRun s w limit count p (from ∷ [])) ≡ mapped placeOf (readRun s w limit left bit (last ∷ []))) × (64 ≤ bit) × (bit ≤ 8 * length s)
+Inv-loop s p w limit count end bit₀ last₀ left₀ bit last left =
+    (mapped placeOf (readRun s w limit count p (last₀ ∷ [])) ≡ mapped placeOf (readRun s w limit left bit (last ∷ []))) × (64 ≤ bit) × (bit ≤ 8 * length s)
 
 abbrev μ-loop : tie.MeasureT-loop
-μ-loop s p w limit count from end bit₀ last₀ left₀ bit last left = left
+μ-loop s p w limit count end bit₀ last₀ left₀ bit last left = left
 
 mul-end : tie.Need-mul-end Inv-loop μ-loop
 mul-end c = omega arith
+
+cast-last : tie.Need-cast-last Inv-loop μ-loop
+cast-last c = search needs
 
 loop-holds : tie.Need-loop-holds Inv-loop μ-loop
 loop-holds c = (refl, omega arith, omega arith)
@@ -30,7 +33,7 @@ sub-if1 c = omega arith
 
 returns : tie.Need-returns Inv-loop μ-loop
 returns c =
-    let a = c .before .before .before .before .args in
+    let a = c .before .before .before .before .before .args in
     let l = c .before .before .loop in
     sym (l .inv .0 ∙ one-short (a .s .now) (a .w) (a .limit) (l .left) (l .bit) (l .last ∷ []) (omega arith) (omega arith))
 
@@ -42,12 +45,12 @@ stepped-requires c κs = search needs
 
 returns-2 : tie.Need-returns-2 Inv-loop μ-loop
 returns-2 c =
-    let a = c .before .before .before .before .before .before .before .args in
+    let a = c .before .before .before .before .before .before .before .before .args in
     let l = c .before .before .before .before .before .loop in
     sym (l .inv .0 ∙ one-out (a .s .now) (a .w) (a .limit) (l .left) (l .bit) (l .last) [] (c .before .stepped .result) (omega arith) (omega arith) (cc) (omega arith))
 
-cast-last : tie.Need-cast-last Inv-loop μ-loop
-cast-last c = omega arith
+cast-last-2 : tie.Need-cast-last-2 Inv-loop μ-loop
+cast-last-2 c = omega arith
 
 add-bit : tie.Need-add-bit Inv-loop μ-loop
 add-bit c = omega arith
@@ -60,7 +63,7 @@ loop-less c = omega arith
 
 loop-again : tie.Need-loop-again Inv-loop μ-loop
 loop-again c =
-    let a = c .before .before .before .before .before .before .before .args in
+    let a = c .before .before .before .before .before .before .before .before .args in
     let l = c .before .before .before .before .before .loop in (
       l .inv .0 ∙ one-on (a .s .now) (a .w) (a .limit) (l .left) (l .bit) (l .last) [] (c .before .stepped .result) (omega arith) (omega arith) (cc) (omega arith),
       omega arith,
@@ -69,7 +72,7 @@ loop-again c =
 
 returns-3 : tie.Need-returns-3 Inv-loop μ-loop
 returns-3 c =
-    let a = c .before .before .before .args in
+    let a = c .before .before .before .before .args in
     let l = c .before .loop in
     sym (l .inv .0 ∙ run-ends (a .s .now) (a .w) (a .limit) (l .left) (l .bit) (l .last ∷ []) (omega arith))
 
@@ -80,13 +83,14 @@ check-points-left-spec =
     Inv-loop
     μ-loop
     mul-end
+    cast-last
     loop-holds
     sub-if1
     returns
     one-field-requires
     stepped-requires
     returns-2
-    cast-last
+    cast-last-2
     add-bit
     sub-left
     loop-less
