@@ -1,6 +1,6 @@
 // What is listed, and the printing of it.
 use crate::print::print_heading;
-use crate::print::print_records;
+use crate::print::print_record;
 use crate::print::print_refusal;
 use crate::print::print_total;
 use payload::RecordsAnswer;
@@ -46,6 +46,28 @@ fn list_records(payload: &[u8], records: &mut [u32]) -> Listing
         // never: the buffer is long enough
         RecordsAnswer::Needs(_) => Listing::Refused(12),
     }
+}
+
+// Prints the first records of those in `records`.
+fn print_records(records: &[u32], count: usize) -> bool
+    requires { ⌜ 5 * count ≤ length (now records) ⌝ }
+{
+    let mut left = count;
+    let mut at: usize = 0;
+    while 0 < left {
+        if !print_record(
+            records[at],
+            records[at + 1],
+            records[at + 2],
+            records[at + 3],
+            records[at + 4],
+        ) {
+            return false;
+        }
+        at += 5;
+        left -= 1;
+    }
+    true
 }
 
 // Prints the listing of a payload, and answers whether all of it was written.

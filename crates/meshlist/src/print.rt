@@ -1,7 +1,5 @@
 // Lines of text on standard output. Each function answers whether all of it was written.
 use libc::STDOUT_FILENO;
-ghost use Prim.Native.Nat.{_+_, _*_, _≤_};
-ghost use lib.ListN.{length};
 
 fn print_number(n: u64, after: u8) -> bool {
     io::print_decimal(STDOUT_FILENO, n) && io::write_all(STDOUT_FILENO, &[after])
@@ -15,30 +13,13 @@ pub fn print_heading() -> bool {
     io::write_all(STDOUT_FILENO, b"mesh texture mode first points\n")
 }
 
-// The five words of the record at `at`.
-fn print_record(records: &[u32], at: usize) -> bool
-    requires { ⌜ at + 5 ≤ length (now records) ⌝ }
-{
-    print_word(records[at], b' ')
-        && print_word(records[at + 1], b' ')
-        && print_word(records[at + 2], b' ')
-        && print_word(records[at + 3], b' ')
-        && print_word(records[at + 4], b'\n')
-}
-
-pub fn print_records(records: &[u32], count: usize) -> bool
-    requires { ⌜ 5 * count ≤ length (now records) ⌝ }
-{
-    let mut left = count;
-    let mut at: usize = 0;
-    while 0 < left {
-        if !print_record(records, at) {
-            return false;
-        }
-        at += 5;
-        left -= 1;
-    }
-    true
+// A record on a line of its own.
+pub fn print_record(mesh: u32, texture: u32, mode: u32, first: u32, points: u32) -> bool {
+    print_word(mesh, b' ')
+        && print_word(texture, b' ')
+        && print_word(mode, b' ')
+        && print_word(first, b' ')
+        && print_word(points, b'\n')
 }
 
 pub fn print_total(meshes: usize, submeshes: usize, points: usize) -> bool {
