@@ -1,5 +1,5 @@
--- The two ways through `within`, and what its verdict tells. Assumes nothing.
-use mathlib.Core.Path.{_≡_, refl}
+-- The two ways through `within`, and what the verdicts of one step, of two and of a step's value tell. Assumes nothing.
+use mathlib.Core.Path.{_≡_, refl, sym}
 use mathlib.Core.Logic.{_⊎_, inl, inr}
 use mathlib.Core.Bool.{Bool, true, false}
 use mathlib.Core.List.{List}
@@ -7,7 +7,7 @@ use Prim.Native.Nat.{ℕ, _≤_, _<_}
 use native.Mathlib.Omega.{arith}
 use lib.Dec.{leb}
 use borrow.Author.Tests.{le-leb, lt-leb, leb-true, leb-false}
-use Rattle.bits.specs.Verdict.{Verdict, accepted, needs, declined, within, andThen}
+use Rattle.bits.specs.Verdict.{Verdict, accepted, needs, declined, within, andThen, mapped}
 
 pub le-or-lt : (m n : ℕ) → (m ≤ n) ⊎ (n < m)
 le-or-lt m n = go (leb m n) refl
@@ -63,3 +63,20 @@ module _ {A B : Type 0} where
 
   pub then-no : (v : Verdict A) (f : A → Verdict B) (k : ℕ) → v ≡ declined k → andThen v f ≡ declined k
   then-no v f k e = rw e
+
+-- ---- a verdict on another value
+
+module _ {A B : Type 0} (f : A → B) (v : Verdict A) where
+  pub mapped-value : (b : B) → accepted b ≡ mapped f v → (a : A) × (v ≡ accepted a) × (f a ≡ b)
+  mapped-value b e =
+      let t = then-value v (λ x. accepted (f x)) b (sym e) in
+      let d = t .2 in
+      (t .0, t .1, cc)
+
+  pub mapped-declined : (k : ℕ) → declined k ≡ mapped f v → v ≡ declined k
+  mapped-declined k e = go v e
+    where
+      go : (v : Verdict A) → declined k ≡ mapped f v → v ≡ declined k
+      go (accepted a) e = absurd (let z : _≡_ {A = ℕ} 0 1 = cc in omega arith)
+      go (needs l) e = absurd (let z : _≡_ {A = ℕ} 0 1 = cc in omega arith)
+      go (declined j) e = cc

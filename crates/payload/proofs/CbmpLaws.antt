@@ -104,4 +104,4 @@ written-back p s f e =
     (ap (λ (x : List ℕ). accepted x) (sym (same-words s (0 ∷ 0 ∷ p ∷ []) (f .bytes) (f .size) (first-word s (e .version) (f .free), (e .layout, (e .padding, tt))))))
 
 pub cbmp-writes : CbmpWrites
-cbmp-writes = writes-laws cbmpRead both written-spells written-back
+cbmp-writes = writes-laws both written-spells written-back

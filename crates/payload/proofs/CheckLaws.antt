@@ -8,7 +8,7 @@ use lib.ListN.{length}
 use Rattle.bits.specs.Verdict.{Verdict, accepted, needs, declined, andThen, mapped}
 use Rattle.bits.specs.Field.{field}
 use Rattle.bits.specs.Number.{steppedTo, widthOf}
-use Rattle.bits.proofs.VerdictLaws.{then-value}
+use Rattle.bits.proofs.VerdictLaws.{mapped-value, mapped-declined}
 use Rattle.payload.specs.Mesh.{Submesh}
 use Rattle.payload.specs.Run.{RunSpells, Found, before, readRun, one, five}
 use Rattle.payload.specs.MeshSpells.{aligned, verticesAt}
@@ -19,23 +19,6 @@ use Rattle.payload.specs.declared.mesh.Five.{Five}
 use Rattle.payload.specs.declared.mesh.FiveNext.{FiveNext}
 use Rattle.payload.proofs.RunLaws.{run-short, run-out, run-on, run-spells}
 use Rattle.payload.proofs.MeshReadLaws.{width-small, submesh-run, submesh-spells, many-none, many-declined, many-on, submeshes-spell, counts-declined, counts-on}
-
--- ---- a verdict on another value
-
-module _ {A B : Type 0} (f : A → B) (v : Verdict A) where
-  pub mapped-value : (b : B) → accepted b ≡ mapped f v → (a : A) × (v ≡ accepted a) × (f a ≡ b)
-  mapped-value b e =
-      let t = then-value v (λ x. accepted (f x)) b (sym e) in
-      let d = t .2 in
-      (t .0, t .1, cc)
-
-  pub mapped-declined : (k : ℕ) → declined k ≡ mapped f v → v ≡ declined k
-  mapped-declined k e = go v e
-    where
-      go : (v : Verdict A) → declined k ≡ mapped f v → v ≡ declined k
-      go (accepted a) e = absurd (let z : _≡_ {A = ℕ} 0 1 = cc in omega arith)
-      go (needs l) e = absurd (let z : _≡_ {A = ℕ} 0 1 = cc in omega arith)
-      go (declined j) e = cc
 
 -- ---- a run: a number in front moves no place
 

@@ -13,7 +13,7 @@ use Rattle.bits.specs.Verdict.{Verdict, accepted, needs, declined, andThen, map
 use Rattle.bits.specs.Field.{field}
 use Rattle.bits.specs.Number.{widthOf}
 use Rattle.bits.specs.Header.{listEnd, box, headerAt}
-use Rattle.bits.proofs.VerdictLaws.{le-or-lt, then-value}
+use Rattle.bits.proofs.VerdictLaws.{le-or-lt, then-value, mapped-value, mapped-declined}
 use Rattle.bits.proofs.NumberLaws.{width-least}
 use Rattle.payload.specs.Payload.{limited}
 use Rattle.payload.specs.Mesh.{Submesh, Mesh}
@@ -31,7 +31,7 @@ use Rattle.payload.proofs.PayloadLaws.{limited-yes, limited-no}
 use Rattle.payload.proofs.RunLaws.{spells-run}
 use Rattle.payload.proofs.StepLaws.{read-value}
 use Rattle.payload.proofs.MeshReadLaws.{width-small, submesh-spells, many-on, words-at, MeshParts, mesh-parts, parts-vertices, parts-submeshes, header-value, at-end, at-mesh, at-other}
-use Rattle.payload.proofs.CheckLaws.{mapped-value, mapped-declined, run-fits}
+use Rattle.payload.proofs.CheckLaws.{run-fits}
 use Rattle.payload.proofs.MeasureLaws.{run-floats, submesh-floats}
 
 -- ---- points

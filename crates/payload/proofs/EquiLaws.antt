@@ -143,4 +143,4 @@ written-back ρ s p e =
     (sym (same-words s (0 ∷ ρ .t ∷ ρ .b ∷ ρ .l ∷ ρ .r ∷ []) (p .bytes) (p .size) (first-word s (e .version) (p .free), (e .top, (e .bottom, (e .left, (e .right, tt))))))))
 
 pub equi-writes : EquiWrites
-equi-writes = writes-laws equiRead both written-spells written-back
+equi-writes = writes-laws both written-spells written-back

@@ -25,3 +25,12 @@ pub mod DrawLaws
 pub mod RecordLaws
 pub mod TableLaws
 pub mod SettledLaws
+pub mod PackedLaws
+pub mod WriterLaws
+pub mod PutRunLaws
+pub mod RowLaws
+pub mod MeshWriteLaws
+pub mod BoxLaws
+pub mod JudgeLaws
+pub mod PutBoxLaws
+pub mod MeshWriteProofs

@@ -10,7 +10,7 @@ use borrow.Author.Tests.{eq-eqb, ne-eqb}
 use Rattle.bits.specs.Verdict.{Verdict, accepted, needs, declined, andThen, mapped}
 use Rattle.bits.specs.Number.{widthOf}
 use Rattle.bits.specs.Header.{box, headerAt}
-use Rattle.bits.proofs.VerdictLaws.{then-yes, then-no}
+use Rattle.bits.proofs.VerdictLaws.{then-yes, then-no, mapped-value, mapped-declined}
 use Rattle.payload.specs.Mesh.{Submesh, Mesh}
 use Rattle.payload.specs.MeshSpells.{submeshBits, SubmeshesSpell, vertexCount, submeshesAt, MeshSpells, meshType, part, sizeAt, sizes, BoxesSpell, ends, holds, skips}
 use Rattle.payload.specs.MeshRead.{readMesh, readFrom, readMeshes}
@@ -21,7 +21,7 @@ use Rattle.payload.specs.declared.mesh.measure.Totals.{Totals}
 use Rattle.payload.specs.declared.mesh.measure.MeshListSize.{MeshListSize}
 use Rattle.payload.proofs.MeshReadLaws.{width-some, mesh-spells, header-value, at-mesh, at-other}
 use Rattle.payload.proofs.MeshTheorems.{meshes-reads}
-use Rattle.payload.proofs.CheckLaws.{mapped-value, mapped-declined, run-fits}
+use Rattle.payload.proofs.CheckLaws.{run-fits}
 
 -- ---- what is counted takes a bit or more, and a submesh 48
 

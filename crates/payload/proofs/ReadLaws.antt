@@ -22,13 +22,13 @@ module _ {R : Type 0} (read : List ℕ → Verdict R) where
         declined-spells-nothing = λ s k d ρ p. clash s k ρ d (e ρ s .1 p);
       }
 
-  pub writes-laws : {Spells : R → List ℕ → Type 0} {InRange : R → Type 0} {written : R → Verdict (List ℕ)} {Plain : List ℕ → Type 0} → ((ρ : R) (s : List ℕ) → (read s ≡ accepted ρ) ↔ Spells ρ s)
-      → ((ρ : R) (s : List ℕ) → InRange ρ → written ρ ≡ accepted s → Spells ρ s)
-      → ((ρ : R) (s : List ℕ) → Plain s → Spells ρ s → written ρ ≡ accepted s)
-      → Writes R Spells read InRange written Plain
-  writes-laws e spelled back =
-      record {
-        written-spells = spelled;
-        written-reads = λ ρ s i w. e ρ s .1 (spelled ρ s i w);
-        read-writes = λ ρ s p r. back ρ s p (e ρ s .0 r);
-      }
+pub writes-laws : {R : Type 0} {Spells ReadAs : R → List ℕ → Type 0} {InRange : R → Type 0} {written : R → Verdict (List ℕ)} {Plain : R → List ℕ → Type 0} → ((ρ : R) (s : List ℕ) → ReadAs ρ s ↔ Spells ρ s)
+    → ((ρ : R) (s : List ℕ) → InRange ρ → written ρ ≡ accepted s → Spells ρ s)
+    → ((ρ : R) (s : List ℕ) → Plain ρ s → Spells ρ s → written ρ ≡ accepted s)
+    → Writes R Spells ReadAs InRange written Plain
+writes-laws e spelled back =
+    record {
+      written-spells = spelled;
+      written-reads = λ ρ s i w. e ρ s .1 (spelled ρ s i w);
+      read-writes = λ ρ s p r. back ρ s p (e ρ s .0 r);
+    }

@@ -10,7 +10,7 @@ use lib.Seq.{sets}
 use borrow.Author.Tests.{le-leb, lt-leb}
 use Rattle.bits.specs.Verdict.{Verdict, accepted, needs, declined, mapped, andThen}
 use Rattle.bits.specs.Field.{field}
-use Rattle.bits.proofs.VerdictLaws.{then-yes, then-no}
+use Rattle.bits.proofs.VerdictLaws.{then-yes, then-no, mapped-value, mapped-declined}
 use Rattle.payload.specs.Mesh.{Submesh, Mesh}
 use Rattle.payload.specs.Run.{readRun, one}
 use Rattle.payload.specs.MeshSpells.{vertexCount}
@@ -23,7 +23,6 @@ use Rattle.payload.proofs.FillLaws.{sets-after, sets-front}
 use Rattle.payload.proofs.PayloadLaws.{limited-yes, limited-no}
 use Rattle.payload.proofs.StepLaws.{Turn, Got3, read-value}
 use Rattle.payload.proofs.MeshReadLaws.{words-length, MeshParts, mesh-parts, mesh-spells}
-use Rattle.payload.proofs.CheckLaws.{mapped-value, mapped-declined}
 use Rattle.payload.proofs.DrawLaws.{SubmeshTurn}
 
 -- the same list stored

@@ -1,7 +1,7 @@
 -- Lists made piece by piece, and what a call that fills one lent buffer says and leaves.
 use Prim.Native.Nat.{ℕ, zero, suc, _/_}
 use mathlib.Core.List.{List, [], _∷_, _++_}
-use mathlib.Core.Bool.{cond}
+use mathlib.Core.Bool.{Bool, cond}
 use lib.ListN.{length, drop}
 use lib.Dec.{leb}
 use Rattle.bits.specs.Verdict.{Verdict, accepted, needs, declined, within}
@@ -24,8 +24,12 @@ answered u (accepted l) room = within (length l) room (length l / u) (needs (len
 answered u (needs k) room = needs k
 answered u (declined k) room = declined k
 
--- the buffer afterwards: the list at its front where it fits, and the rest, or all of it, as it was
+-- a buffer afterwards: a list at its front where the call fills it, and the rest, or all of it, as it was
+abbrev pub begun : Bool → List ℕ → List ℕ → List ℕ
+begun fills l out = cond fills (l ++ drop (length l) out) out
+
+-- for a call that fills one buffer: it does where the list fits
 abbrev pub front : Verdict (List ℕ) → List ℕ → List ℕ
-front (accepted l) out = cond (leb (length l) (length out)) (l ++ drop (length l) out) out
+front (accepted l) out = begun (leb (length l) (length out)) l out
 front (needs k) out = out
 front (declined k) out = out

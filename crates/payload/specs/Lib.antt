@@ -11,7 +11,6 @@ pub mod Cube
 pub mod CubeParts
 pub mod Count
 pub mod View
-pub mod Laws
 pub mod ShareLaws
 pub mod CropMarked
 pub mod SphereMarked
@@ -21,7 +20,11 @@ pub mod Run
 pub mod MeshSpells
 pub mod MeshRead
 pub mod MeshDrawing
-pub mod MeshMarked
 pub mod Meshes
 pub mod Tables
 pub mod Internal
+pub mod Packed
+pub mod MeshWrite
+pub mod MeshMarked
+pub mod Laws
+pub mod Writing

@@ -1,11 +1,13 @@
--- m1 of document 01: a list of one mesh box, as it is read, and damaged copies of it.
+-- m1 of document 01: a list of one mesh box, as it is read, drawn and written, with damaged copies of it, and a list of two.
 use Prim.Native.Nat.{ℕ}
 use mathlib.Core.Path.{_≡_}
-use mathlib.Core.List.{List, [], _∷_}
+use mathlib.Core.List.{List, [], _∷_, _++_}
 use lib.ListN.{take, set}
 use Rattle.bits.specs.Verdict.{accepted, declined}
 use Rattle.payload.specs.Mesh.{Mesh}
 use Rattle.payload.specs.MeshRead.{readMeshes}
+use Rattle.payload.specs.MeshDrawing.{drawnNumbers, drawnFloats, drawnRecords}
+use Rattle.payload.specs.MeshWrite.{meshWritten}
 
 -- a size of 40 and 'mesh'; two pool words; three vertices, in 30 bits; one submesh of three points, in 9 bits
 abbrev pub oneBox : List ℕ
@@ -22,8 +24,23 @@ oneMesh =
       submeshes = record { texture = 0; mode = 0; points = 0 ∷ 1 ∷ 2 ∷ [] } ∷ [];
     }
 
+-- the box, one of another type with a byte in it, the box again, and three bytes that are free
+abbrev pub twoBoxes : List ℕ
+twoBoxes = oneBox ++ ((0x00 ∷ 0x00 ∷ 0x00 ∷ 0x09 ∷ 0x66 ∷ 0x72 ∷ 0x65 ∷ 0x65 ∷ 0xFF ∷ []) ++ (oneBox ++ (0xFF ∷ 0xFF ∷ 0xFF ∷ [])))
+
 pub record MeshMarked : Type 0 where
   pub m1 : readMeshes oneBox ≡ accepted (oneMesh ∷ [])
+  pub m1-two : readMeshes twoBoxes ≡ accepted (oneMesh ∷ oneMesh ∷ [])
+  pub m1-empty : readMeshes [] ≡ accepted []
+  -- its drawing, and the records of two
+  pub m1-numbers : drawnNumbers (oneMesh ∷ []) ≡ oneMesh .vertices
+  pub m1-floats : drawnFloats (oneMesh ∷ []) ≡ 0 ∷ 0 ∷ 0 ∷ 0 ∷ 0 ∷ 0x3F800000 ∷ 0 ∷ 0 ∷ 0x3F800000 ∷ 0 ∷ 0 ∷ 0x3F800000 ∷ 0 ∷ 0 ∷ 0x3F800000 ∷ []
+  pub m1-records : drawnRecords (oneMesh ∷ oneMesh ∷ []) ≡ 0 ∷ 0 ∷ 0 ∷ 0 ∷ 3 ∷ 1 ∷ 0 ∷ 0 ∷ 3 ∷ 3 ∷ []
+  -- written from its four tables; one point too many, a texture of 256, a vertex that is not there
+  pub m1-written : meshWritten (oneMesh .pool) (oneMesh .vertices) (0 ∷ 0 ∷ 3 ∷ []) (0 ∷ 1 ∷ 2 ∷ []) ≡ accepted oneBox
+  pub m1-uneven : meshWritten (oneMesh .pool) (oneMesh .vertices) (0 ∷ 0 ∷ 3 ∷ []) (0 ∷ 1 ∷ 2 ∷ 0 ∷ []) ≡ declined 13
+  pub m1-texture : meshWritten (oneMesh .pool) (oneMesh .vertices) (256 ∷ 0 ∷ 3 ∷ []) (0 ∷ 1 ∷ 2 ∷ []) ≡ declined 13
+  pub m1-outside : meshWritten (oneMesh .pool) (oneMesh .vertices) (0 ∷ 0 ∷ 3 ∷ []) (0 ∷ 1 ∷ 3 ∷ []) ≡ declined 13
   -- the last byte is missing: the size reaches past the end
   pub m1-past : readMeshes (take 39 oneBox) ≡ declined 6
   -- the second point goes below 0; the third is 3, of three vertices
@@ -33,3 +50,7 @@ pub record MeshMarked : Type 0 where
   pub m1-none : readMeshes (set oneBox 31 0x00) ≡ declined 7
   -- a size of 38: the body ends before the points
   pub m1-short : readMeshes (set oneBox 3 0x26) ≡ declined 3
+  -- two faults: a coordinate count of 0 in the first mesh comes before a box of size 0 behind it
+  pub m1-order : readMeshes (set oneBox 11 0x00 ++ (0 ∷ 0 ∷ 0 ∷ 0 ∷ 0 ∷ 0 ∷ 0 ∷ 0 ∷ [])) ≡ declined 7
+  -- and a box of size 0 before a damaged mesh behind it
+  pub m1-order-2 : readMeshes ((0 ∷ 0 ∷ 0 ∷ 0 ∷ 0 ∷ 0 ∷ 0 ∷ 0 ∷ []) ++ set oneBox 11 0x00) ≡ declined 6

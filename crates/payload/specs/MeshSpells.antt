@@ -56,6 +56,10 @@ verticesEnd x = verticesAt (length (x .pool)) + length (x .vertices) * widthOf (
 abbrev pub submeshesAt : Mesh → ℕ
 submeshesAt x = aligned (verticesEnd x)
 
+-- where its last field ends
+abbrev pub submeshesEnd : Mesh → ℕ
+submeshesEnd x = submeshesAt x + 32 + sizes (submeshBits (widthOf (vertexCount x))) (x .submeshes)
+
 -- coordinate count n, n words, vertex count m; m * 5 fields of width w(n); free bits to the next byte boundary, submesh count, submeshes
 pub record MeshSpells (s : List ℕ) (x : Mesh) : Type 0 where
   pub head : verticesAt (length (x .pool)) ≤ 8 * length s

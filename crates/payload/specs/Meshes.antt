@@ -1,10 +1,11 @@
 -- What the calls of kind 2 say, and what they leave in the buffers.
 use Prim.Native.Nat.{ℕ}
-use mathlib.Core.List.{List, [], _∷_, _++_}
+use mathlib.Core.List.{List, [], _∷_}
 use mathlib.Core.Bool.{Bool, _&&_, cond}
 use lib.Dec.{leb}
-use lib.ListN.{length, drop}
+use lib.ListN.{length}
 use Rattle.bits.specs.Verdict.{Verdict, accepted, needs, declined, within, andThen}
+use Rattle.payload.specs.Fill.{begun}
 use Rattle.payload.specs.Payload.{limited}
 use Rattle.payload.specs.Mesh.{Mesh}
 use Rattle.payload.specs.MeshRead.{readMeshes}
@@ -45,7 +46,7 @@ drawnAnswer l n f r =
 
 -- a buffer afterwards: its list at the front where the drawing fits, and the rest, or all of it, as it was
 abbrev pub drawnInto : (List Mesh → List ℕ) → Verdict (List Mesh) → ℕ → ℕ → ℕ → List ℕ → List ℕ
-drawnInto draw (accepted l) n f r out = cond (fitsIn l n f r) (draw l ++ drop (length (draw l)) out) out
+drawnInto draw (accepted l) n f r out = begun (fitsIn l n f r) (draw l) out
 drawnInto draw (needs k) n f r out = out
 drawnInto draw (declined k) n f r out = out
 

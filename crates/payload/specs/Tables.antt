@@ -3,8 +3,9 @@ use Prim.Native.Nat.{ℕ}
 use mathlib.Core.List.{List, [], _∷_, _++_}
 use mathlib.Core.Bool.{Bool, _&&_, cond}
 use lib.Dec.{leb}
-use lib.ListN.{length, drop}
+use lib.ListN.{length}
 use Rattle.bits.specs.Verdict.{Verdict, accepted, needs, declined, mapped}
+use Rattle.payload.specs.Fill.{begun}
 use Rattle.payload.specs.Payload.{limited}
 use Rattle.payload.specs.Mesh.{Submesh, Mesh}
 use Rattle.payload.specs.MeshRead.{readMesh}
@@ -77,6 +78,6 @@ tablesSays (A.Declined k) = declined k
 
 -- a buffer afterwards: its table at the front where all four fit, and the rest, or all of it, as it was
 abbrev pub tablesInto : (Mesh → List ℕ) → Verdict Mesh → ℕ → ℕ → ℕ → ℕ → List ℕ → List ℕ
-tablesInto table (accepted x) a b c d out = cond (tablesFit x a b c d) (table x ++ drop (length (table x)) out) out
+tablesInto table (accepted x) a b c d out = begun (tablesFit x a b c d) (table x) out
 tablesInto table (needs k) a b c d out = out
 tablesInto table (declined k) a b c d out = out

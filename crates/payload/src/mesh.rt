@@ -11,9 +11,12 @@ ghost use Rattle.payload.specs.Run.{readRun, five};
 ghost use Rattle.payload.specs.MeshRead.{readMesh};
 ghost use Rattle.payload.specs.Internal.{wideBits, narrowBits, queue, queueNext, AllBelow, Stepped5, WasRead, runNumbers, HeadOf};
 
+mod bit_writer;
 mod draw;
+mod judge;
 mod measure;
 mod tables;
+mod write;
 
 pub use draw::MeshesAnswer;
 pub use draw::RecordsAnswer;
@@ -27,6 +30,7 @@ pub use measure::measure_mesh;
 pub use measure::measure_meshes;
 pub use tables::MeshAnswer;
 pub use tables::parse_mesh;
+pub use write::write_mesh;
 
 // 'mesh', the type of a mesh box.
 const MESH: u32 = 0x6D65_7368;

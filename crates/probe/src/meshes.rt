@@ -1,5 +1,6 @@
 // The calls on mesh lists and mesh bodies.
 use super::reply::Reply;
+use super::reply::of_filled;
 use super::reply::tell;
 use payload::Measured;
 use payload::MeshAnswer;
@@ -10,13 +11,14 @@ use payload::TableLengths;
 ghost use mathlib.Core.Path.{_≡_};
 ghost use lib.ListN.{length};
 ghost use Rattle.bits.specs.Verdict.{accepted, mapped, andThen};
-ghost use Rattle.payload.specs.Fill.{front};
+ghost use Rattle.payload.specs.Fill.{answered, front};
 ghost use Rattle.payload.specs.Payload.{limited};
 ghost use Rattle.payload.specs.MeshRead.{readMeshes};
 ghost use Rattle.payload.specs.MeshDrawing.{drawnNumbers, drawnFloats, drawnRecords};
 ghost use Rattle.payload.specs.Meshes.{listSize, measuredSays, meshesSays, meshesAnswer, drawnInto, recordsSays, recordsAnswer};
 ghost use Rattle.payload.specs.Tables.{poolTable, coordinateTable, submeshTable, pointTable, bodyRead, tablesSays, tablesAnswer, tablesInto};
-ghost use Rattle.probe.specs.Answer.{answers, leaves, told, says};
+ghost use Rattle.payload.specs.MeshWrite.{meshWritten};
+ghost use Rattle.probe.specs.Answer.{answers, leaves, told, one, says};
 ghost use Rattle.probe.specs.Shown.{sizeWords, countWords, tableWords};
 
 fn of_size(n: MeshListSize) -> Reply
@@ -145,5 +147,24 @@ pub extern "C" fn probe_parse_mesh(
     tell(
         words,
         of_tables(payload::parse_mesh(body, pool, coordinates, submeshes, points)),
+    )
+}
+
+#[no_mangle]
+pub extern "C" fn probe_write_mesh(
+    pool: &[u32],
+    coordinates: &[u16],
+    submeshes: &[u32],
+    points: &[u16],
+    out: &mut [u8],
+    words: &mut [u64],
+) -> i64
+    ensures { λ r. ⌜ r ≡ answers (told one (answered 1 (meshWritten (now (pool .entry)) (now (coordinates .entry)) (now (submeshes .entry)) (now (points .entry))) (length (now (out .entry))))) ⌝ }
+    ensures { λ _. ⌜ now (words .exit) ≡ leaves (now (words .entry)) (told one (answered 1 (meshWritten (now (pool .entry)) (now (coordinates .entry)) (now (submeshes .entry)) (now (points .entry))) (length (now (out .entry))))) ⌝ }
+    ensures { λ _. ⌜ now (out .exit) ≡ front (meshWritten (now (pool .entry)) (now (coordinates .entry)) (now (submeshes .entry)) (now (points .entry))) (now (out .entry)) ⌝ }
+{
+    tell(
+        words,
+        of_filled(payload::write_mesh(pool, coordinates, submeshes, points, out)),
     )
 }

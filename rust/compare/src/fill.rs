@@ -17,6 +17,16 @@ pub trait Item: Copy + PartialEq + LowerHex {
     fn same(self, due: Self) -> bool;
 }
 
+impl Item for u8 {
+    fn before(place: usize) -> u8 {
+        (place as u8).wrapping_mul(0x37) ^ 0xC3
+    }
+
+    fn same(self, due: u8) -> bool {
+        self == due
+    }
+}
+
 impl Item for u16 {
     fn before(place: usize) -> u16 {
         (place as u16).wrapping_mul(0x9E37) ^ 0xA5C3

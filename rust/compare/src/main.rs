@@ -20,6 +20,9 @@ mod mesh;
 mod mesh_damage;
 mod mesh_model;
 mod mesh_payloads;
+mod mesh_spoils;
+mod mesh_writer;
+mod mesh_writer_model;
 mod meshes;
 mod nearest;
 mod options;
@@ -47,7 +50,7 @@ use tally::Tally;
 
 type Subject = (&'static str, fn(&Options) -> Vec<Tally>);
 
-const SUBJECTS: [Subject; 22] = [
+const SUBJECTS: [Subject; 23] = [
     ("zigzag", zigzag::run),
     ("bit_width", bit_width::run),
     ("nearest", nearest::run),
@@ -68,6 +71,7 @@ const SUBJECTS: [Subject; 22] = [
     ("cube", cube::run),
     ("mesh", mesh::run),
     ("meshes", meshes::run),
+    ("mesh_writer", mesh_writer::run),
     ("counts", counts::run),
     ("view", view::run),
 ];

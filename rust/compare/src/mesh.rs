@@ -1,7 +1,7 @@
 use std::slice::from_ref;
 
 use reference::mesh;
-use spell::Spelled;
+use spell::{Spelled, Tables};
 
 use crate::answer::Answer;
 use crate::drawing::Drawing;
@@ -22,15 +22,6 @@ const BODIES: usize = 60;
 const RANDOM: usize = 12_000;
 /// Damaged copies of a random body.
 const COPIES: usize = 3;
-
-/// The four tables that document 01 gives a mesh.
-#[derive(Default)]
-struct Tables {
-    pool: Vec<u32>,
-    coordinates: Vec<u16>,
-    submeshes: Vec<u32>,
-    points: Vec<u16>,
-}
 
 type Due = Result<Tables, i64>;
 
@@ -127,7 +118,7 @@ impl Bodies {
                 .check(agrees(body, &reading), true, || shown(body));
             &mut self.parsed
         };
-        parse(tally, &mut self.random, body, &reading.map(Tables::of));
+        parse(tally, &mut self.random, body, &reading.map(Tables::from));
     }
 }
 
@@ -143,30 +134,17 @@ fn agrees(body: &[u8], model: &Result<Mesh, i64>) -> bool {
     }
 }
 
-impl Tables {
-    fn of(mesh: Mesh) -> Tables {
+impl From<Mesh> for Tables {
+    fn from(mesh: Mesh) -> Tables {
         let mut tables = Tables {
             pool: mesh.pool,
             coordinates: mesh.coordinates,
             ..Tables::default()
         };
         for submesh in mesh.submeshes {
-            let count = submesh.points.len() as u32;
-            tables
-                .submeshes
-                .extend([submesh.texture, submesh.mode, count]);
-            tables.points.extend(submesh.points);
+            tables.push_submesh(submesh.texture, submesh.mode, submesh.points.into_iter());
         }
         tables
-    }
-
-    fn lengths(&self) -> [usize; 4] {
-        [
-            self.pool.len(),
-            self.coordinates.len(),
-            self.submeshes.len(),
-            self.points.len(),
-        ]
     }
 }
 

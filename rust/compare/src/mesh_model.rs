@@ -8,10 +8,11 @@ const SHORT: i64 = 3;
 const BAD_SIZE: i64 = 6;
 const BAD_COUNT: i64 = 7;
 const STRAY: i64 = 8;
-const MOST_COORDINATES: u32 = 10_000;
-const MOST_VERTICES: u32 = 32_000;
-const MOST_POINTS: u32 = 128_000;
-const HEADER: usize = 8;
+pub const MOST_COORDINATES: u32 = 10_000;
+pub const MOST_VERTICES: u32 = 32_000;
+pub const MOST_POINTS: u32 = 128_000;
+/// A box's size and type.
+pub const HEADER: usize = 8;
 
 pub struct Submesh {
     pub texture: u32,

@@ -206,6 +206,20 @@ extern "C" {
         words: *mut u64,
         words_len: usize,
     ) -> i64;
+    pub fn probe_write_mesh(
+        pool: *const u32,
+        pool_len: usize,
+        coordinates: *const u16,
+        coordinates_len: usize,
+        submeshes: *const u32,
+        submeshes_len: usize,
+        points: *const u16,
+        points_len: usize,
+        out: *mut u8,
+        out_len: usize,
+        words: *mut u64,
+        words_len: usize,
+    ) -> i64;
     pub fn probe_parse_meshes(
         payload: *const u8,
         payload_len: usize,

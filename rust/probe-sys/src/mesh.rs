@@ -52,6 +52,32 @@ pub fn parse_mesh(
     }
 }
 
+pub fn write_mesh(
+    pool: &[u32],
+    coordinates: &[u16],
+    submeshes: &[u32],
+    points: &[u16],
+    out: &mut [u8],
+    words: &mut [u64],
+) -> i64 {
+    unsafe {
+        ffi::probe_write_mesh(
+            pool.as_ptr(),
+            pool.len(),
+            coordinates.as_ptr(),
+            coordinates.len(),
+            submeshes.as_ptr(),
+            submeshes.len(),
+            points.as_ptr(),
+            points.len(),
+            out.as_mut_ptr(),
+            out.len(),
+            words.as_mut_ptr(),
+            words.len(),
+        )
+    }
+}
+
 pub fn parse_meshes(
     payload: &[u8],
     numbers: &mut [u16],

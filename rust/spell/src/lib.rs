@@ -1,8 +1,10 @@
 //! Spells payloads of kind 2 from descriptions, right ones and wrong ones.
 
 mod bits;
+mod tables;
 
 pub use bits::{overwrite, read_word, BitWriter};
+pub use tables::{Tables, ROW};
 
 pub const MESH: [u8; 4] = *b"mesh";
 /// Coordinate numbers to a vertex.

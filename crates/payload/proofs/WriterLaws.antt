@@ -1,0 +1,183 @@
+-- Bits on their way into a buffer: a field that waits, four bytes that go out, and the end.
+use Prim.Native.Nat.{ℕ, zero, suc, _+_, _-_, _*_, _/_, _%_, _^_, _≤_, _<_}
+use mathlib.Core.Path.{_≡_, refl, sym, ap, ap₂, _∙_, subst}
+use mathlib.Core.List.{List, [], _∷_, _++_, append-assoc, append-nil}
+use native.Mathlib.Omega.{arith}
+use native.Mathlib.Nat.{mod-eq-of-lt, mul-assoc, add-mul, add-assoc, mod-lt, lt-of-lt-of-le}
+use lib.ListN.{length}
+use lib.Pow.{pow-add, pow-pos, pow-mono, shr-lt, split, shl-exact}
+use lib.Seq.{sets, length-sets}
+use lib.Arith.{digits-lt}
+use Rattle.bits.specs.Field.{field, room}
+use Rattle.bits.specs.Put.{bitsPut, bytesOf, fieldPut, wordPut}
+use Rattle.bits.proofs.ByteLaws.{length-bytes}
+use Rattle.bits.proofs.FieldLaws.{field-zero}
+use Rattle.bits.proofs.PutLaws.{cat-lt, field-put-yes, word-put-yes}
+use Rattle.payload.specs.Packed.{Field, Fits, bits, number, packed, spare}
+use Rattle.payload.specs.Writing.{Advances, Ready, outcome}
+use Rattle.payload.specs.declared.mesh.bit_writer.BitWriter.{BitWriter}
+use Rattle.payload.proofs.FillLaws.{sets-append}
+use Rattle.payload.proofs.PackedLaws.{bits-append, bytes-first, bytes-low, fits-append, packed-join, packed-out}
+
+-- ---- steps
+
+pub advances-here : {out : List ℕ} {from : BitWriter} {l : List Field} → Ready out from l → Advances out from l out from l
+advances-here r = record { few = r .few; held = r .held; place = refl; long = refl; same = λ rest f. refl }
+
+pub advances-on : {o p q : List ℕ} {a b c : BitWriter} {l m n : List Field} → Advances o a l p b m → Advances p b m q c n → Advances o a l q c n
+advances-on g h =
+    record { few = h .few; held = h .held; place = h .place ∙ g .place; long = h .long ∙ g .long; same = λ rest f. h .same rest f ∙ g .same rest f }
+
+-- fields that are left stay left
+pub advances-more : {o p : List ℕ} {a b : BitWriter} {l : List Field} (k : List Field) → Fits k → Advances o a l p b [] → Advances o a (l ++ k) p b k
+unfolding bits
+advances-more {o} {p} {a} {b} {l} k f g =
+    record {
+      few = g .few;
+      held = g .held;
+      place = omega (arith, g .place, bits-append l k);
+      long = g .long;
+      same = λ rest h. g .same (k ++ rest) (fits-append k rest f h) ∙ ap (outcome o a) (sym (append-assoc l k rest));
+    }
+
+-- what is left is ready, where the whole was
+pub still-ready : {o p : List ℕ} {a b : BitWriter} {l m : List Field} → Ready o a l → Fits m → Advances o a l p b m → Ready p b m
+still-ready r f g = record { few = g .few; held = g .held; fits = f; room = omega (arith, g .place, g .long, r .room) }
+
+-- ---- a part of the way: from a start, with l left
+
+abbrev pub Underway : List ℕ → BitWriter → List Field → List ℕ → BitWriter → List Field → Type 0
+Underway O A L o a l = Ready o a l × Advances O A L o a l
+
+pub on-start : {o : List ℕ} {a : BitWriter} {l : List Field} → Ready o a l → Underway o a l o a l
+on-start r = (r, advances-here r)
+
+-- the front of what is left can be written, and once it is, the rest is left
+fits-left : (k l : List Field) → Fits (k ++ l) → Fits k
+fits-left [] l f = tt
+fits-left (x ∷ k) l f = (f .0, fits-left k l (f .1))
+
+fits-right : (k l : List Field) → Fits (k ++ l) → Fits l
+fits-right [] l f = f
+fits-right (x ∷ k) l f = fits-right k l (f .1)
+
+pub head-ready : {o : List ℕ} {a : BitWriter} (k l : List Field) → Ready o a (k ++ l) → Ready o a k
+head-ready k l r = record { few = r .few; held = r .held; fits = fits-left k l (r .fits); room = omega (arith, r .room, bits-append k l) }
+
+pub on-step : {O o p : List ℕ} {A a b : BitWriter} {L : List Field} (k l : List Field) → Underway O A L o a (k ++ l) → Advances o a k p b [] → Underway O A L p b l
+on-step k l (r, g) s =
+    let h = advances-more l (fits-right k l (r .fits)) s in
+    (still-ready r (fits-right k l (r .fits)) h, advances-on g h)
+
+pub first-ready : {o : List ℕ} {a : BitWriter} (x : Field) (l : List Field) → Ready o a (x ∷ l) → Ready o a (x ∷ [])
+first-ready x l r = head-ready (x ∷ []) l r
+
+pub on-first : {O o p : List ℕ} {A a b : BitWriter} {L : List Field} (x : Field) (l : List Field) → Underway O A L o a (x ∷ l) → Advances o a (x ∷ []) p b [] → Underway O A L p b l
+on-first x l w s = on-step (x ∷ []) l w s
+
+pub on-last : {O o p : List ℕ} {A a b : BitWriter} {L k : List Field} → Underway O A L o a k → Advances o a k p b [] → Advances O A L p b []
+on-last (r, g) s = advances-on g s
+
+pub with-nil : {O o : List ℕ} {A a : BitWriter} {L k : List Field} → Underway O A L o a k → Underway O A L o a (k ++ [])
+with-nil {O} {o} {A} {a} {L} {k} w = subst (Underway O A L o a) (sym (append-nil k)) w
+
+-- ---- bytes that go out together
+
+pub packed-bytes : (n k a f : ℕ) (l : List Field) → a < 2 ^ k → f < 2 ^ (8 * n) → Fits l → packed ((8 * n + k, f * 2 ^ k + a) ∷ l) ≡ bytesOf n f ++ packed ((k, a) ∷ l)
+unfolding bytesOf
+packed-bytes zero k a f l h i g =
+    let e : 8 * 0 + k ≡ k = omega arith in
+    let z : f ≡ 0 = omega arith in
+    let y : f * 2 ^ k + a ≡ a = rw z (omega arith) in
+    rw (e, y)
+packed-bytes (suc n) k a f l h i g =
+    let b : ℕ = f / 2 ^ (8 * n) in
+    let d : ℕ = f % 2 ^ (8 * n) in
+    let e : 8 * suc n + k ≡ 8 + (8 * n + k) = omega arith in
+    let m : 8 * suc n ≡ 8 + 8 * n = omega arith in
+    let s : b * 2 ^ (8 * n) + d ≡ f = split f (8 * n) in
+    let dl : d < 2 ^ (8 * n) = mod-lt f (pow-pos (8 * n)) in
+    let bl : b < 256 = shr-lt 8 (8 * n) (subst (λ (x : ℕ). f < 2 ^ x) m i) in
+    let v : f * 2 ^ k + a ≡ b * 2 ^ (8 * n + k) + (d * 2 ^ k + a) =
+    ap (λ (x : ℕ). x * 2 ^ k + a) (sym s)
+    ∙ ap (λ (x : ℕ). x + a) (add-mul (b * 2 ^ (8 * n)) d (2 ^ k) ∙ ap (λ (x : ℕ). x + d * 2 ^ k) (mul-assoc b (2 ^ (8 * n)) (2 ^ k) ∙ ap (λ (x : ℕ). b * x) (sym (pow-add 2 (8 * n) k))))
+    ∙ add-assoc (b * 2 ^ (8 * n + k)) (d * 2 ^ k) a in
+    let w : d * 2 ^ k + a < 2 ^ (8 * n + k) = subst (λ (x : ℕ). d * 2 ^ k + a < x) (sym (pow-add 2 (8 * n) k)) (digits-lt dl h) in
+    ap₂ (λ (x y : ℕ). packed ((x, y) ∷ l)) e v
+    ∙ packed-out (8 * n + k) (d * 2 ^ k + a) b l w bl g
+    ∙ ap (λ (t : List ℕ). b ∷ t) (packed-bytes n k a d l h dl g)
+    ∙ ap₂ (λ (x : ℕ) (t : List ℕ). x ∷ (t ++ packed ((k, a) ∷ l))) (sym (mod-eq-of-lt bl)) (sym (bytes-low n b f d (sym s)))
+    ∙ ap (λ (t : List ℕ). t ++ packed ((k, a) ∷ l)) (sym (bytes-first n f))
+
+-- ---- one field
+
+-- the word of the bits that wait and a field fits, and so do the 32 bits above the lowest k
+pub high-fits : (x b w k : ℕ) → x < 2 ^ (b + w) → 32 + k ≡ b + w → x / 2 ^ k < 2 ^ 32
+high-fits x b w k h e = shr-lt 32 k (rw e h)
+
+pub power-is : (k : ℕ) → k < 64 → 1 * 2 ^ k % 2 ^ 64 ≡ 2 ^ k
+power-is k h = shl-exact 1 k 64 (omega arith) (omega arith) ∙ omega arith
+
+module _ (out : List ℕ) (from : BitWriter) (w v : ℕ) (r : Ready out from ((w, v) ∷ [])) where
+  pub word-lt : from .held * 2 ^ w + v < 2 ^ (from .bits + w)
+  word-lt = cat-lt (from .bits) w (r .held) (r .fits .0)
+
+  -- it waits
+  pub put-waits : (to : BitWriter) → to .at ≡ from .at → to .held ≡ from .held * 2 ^ w + v → to .bits ≡ from .bits + w → from .bits + w < 32 → Advances out from ((w, v) ∷ []) out to []
+  unfolding bits
+  put-waits to a h b l =
+      record {
+        few = omega arith;
+        held = rw (h, b) word-lt;
+        place = omega arith;
+        long = refl;
+        same = λ rest f. rw (a, h, b) (ap (sets out (from .at)) (sym (packed-join (from .bits) (from .held) w v rest)));
+      }
+
+  -- 32 bits go out
+  pub put-room : 32 ≤ from .bits + w → from .at + 4 ≤ length out
+  unfolding bits
+  put-room h = omega (arith, r .room)
+
+  pub put-goes : (out′ : List ℕ) (to : BitWriter) (word k : ℕ) → word ≡ from .held * 2 ^ w + v → 32 + k ≡ from .bits + w → w ≤ 32 → out′ ≡ wordPut out (from .at) (word / 2 ^ k) → to .at ≡ from .at + 4 → to .held ≡ word % 2 ^ k → to .bits ≡ k
+      → Advances out from ((w, v) ∷ []) out′ to []
+  unfolding bits
+  put-goes out′ to word k d e u o a h b =
+      let f : ℕ = word / 2 ^ k in
+      let i : out′ ≡ sets out (from .at) (bytesOf 4 f) = o ∙ word-put-yes out (from .at) f (put-room (omega arith)) in
+      let q : f * 2 ^ k + word % 2 ^ k ≡ word = split word k in
+      let dl : word % 2 ^ k < 2 ^ k = mod-lt word (pow-pos k) in
+      let fl : f < 2 ^ (8 * 4) = shr-lt 32 k (rw (d, e) word-lt) in
+      record {
+        few = omega (arith, r .few);
+        held = rw (h, b) dl;
+        place = omega arith;
+        long = ap length i ∙ length-sets out (from .at) (bytesOf 4 f);
+        same = λ rest g.
+            rw (a, h, b, i)
+            (ap (λ (j : ℕ). sets (sets out (from .at) (bytesOf 4 f)) j (packed ((k, word % 2 ^ k) ∷ rest))) (ap (λ (j : ℕ). from .at + j) (sym (length-bytes 4 f)))
+            ∙ sym (sets-append (bytesOf 4 f) (packed ((k, word % 2 ^ k) ∷ rest)) out (from .at))
+            ∙ ap (sets out (from .at)) (sym (packed-bytes 4 k (word % 2 ^ k) f rest dl fl g) ∙ ap₂ (λ (x y : ℕ). packed ((x, y) ∷ rest)) e (q ∙ d) ∙ sym (packed-join (from .bits) (from .held) w v rest)));
+      }
+
+-- ---- the end
+
+module _ (out : List ℕ) (from : BitWriter) (r : Ready out from []) where
+  pub held-lt : from .held < 2 ^ 32
+  held-lt = lt-of-lt-of-le (r .held) (pow-mono {j = 32} (omega (arith, r .few)))
+
+  pub finish-is : fieldPut out (8 * from .at) (from .bits) (from .held) ≡ outcome out from []
+  unfolding bits number packed bitsPut
+  finish-is =
+      let p : ℕ = 8 * from .at in
+      let k : ℕ = from .bits in
+      let a : p / 8 ≡ from .at = omega arith in
+      let o : p % 8 ≡ 0 = omega arith in
+      let t : (0 + k + 7) / 8 ≡ (k + 0 + 7) / 8 = omega arith in
+      let u : 8 * ((0 + k + 7) / 8) - 0 - k ≡ spare (k + 0) = omega arith in
+      let e : (field out (8 * (p / 8)) (p % 8) * 2 ^ k + from .held) ≡ 0 * 2 ^ k + from .held = ap (λ (x : ℕ). x * 2 ^ k + from .held) (ap (field out (8 * (p / 8))) o ∙ field-zero out (8 * (p / 8))) in
+      field-put-yes out p k (from .held) (omega (arith, r .room))
+      ∙ ap (bitsPut out p k) (mod-eq-of-lt (r .held))
+      ∙ ap₂ (λ (i : ℕ) (n : ℕ). sets out i (bytesOf ((p % 8 + k + 7) / 8) (n * 2 ^ (8 * ((p % 8 + k + 7) / 8) - p % 8 - k)))) a e
+      ∙ ap (λ (x : ℕ). sets out (from .at) (bytesOf ((x + k + 7) / 8) ((0 * 2 ^ k + from .held) * 2 ^ (8 * ((x + k + 7) / 8) - x - k)))) o
+      ∙ ap₂ (λ (n x : ℕ). sets out (from .at) (bytesOf n ((0 * 2 ^ k + from .held) * 2 ^ x))) t u

@@ -1,0 +1,76 @@
+-- What the private parts of the mesh writer go by: bits on their way into a buffer, and tables judged row by row.
+use Prim.Native.Nat.{ℕ, zero, suc, _+_, _-_, _*_, _/_, _%_, _^_, _≤_, _<_}
+use mathlib.Core.Path.{_≡_}
+use mathlib.Core.List.{List, [], _∷_, _++_}
+use mathlib.Core.Bool.{Bool, false, cond, _&&_}
+use lib.Dec.{leb, eqb}
+use lib.ListN.{length}
+use lib.Seq.{sets}
+use Rattle.bits.specs.Verdict.{Verdict, accepted, declined}
+use Rattle.bits.specs.Number.{widthOf}
+use Rattle.payload.specs.Mesh.{Submesh}
+use Rattle.payload.specs.MeshSpells.{aligned, verticesAt}
+use Rattle.payload.specs.Packed.{Field, bits, packed, Fits}
+use Rattle.payload.specs.MeshWrite.{gap, submeshesFields, every, rowWithin}
+use Rattle.payload.specs.declared.mesh.bit_writer.BitWriter.{BitWriter}
+use Rattle.payload.specs.declared.mesh.judge.Judged.{Judged}
+use Rattle.payload.specs.declared.mesh.judge.Judged.the-variants as J
+
+-- ---- bits on their way into a buffer
+
+-- the bits that wait are as many as the writer says and fewer than 32; the fields fit, and there is room for them
+pub record Ready (out : List ℕ) (from : BitWriter) (l : List Field) : Type 0 where
+  pub few : from .bits < 32
+  pub held : from .held < 2 ^ from .bits
+  pub fits : Fits l
+  pub room : 8 * from .at + from .bits + bits l ≤ 8 * length out
+
+-- the buffer in the end, once the fields l are written after those that wait
+abbrev pub outcome : List ℕ → BitWriter → List Field → List ℕ
+outcome out from l = sets out (from .at) (packed ((from .bits, from .held) ∷ l))
+
+-- to write l from `from` on into `out` comes to the same as to write l′ from `to` on into `out′`, whatever follows
+pub record Advances (out : List ℕ) (from : BitWriter) (l : List Field) (out′ : List ℕ) (to : BitWriter) (l′ : List Field) : Type 0 where
+  pub few : to .bits < 32
+  pub held : to .held < 2 ^ to .bits
+  pub place : 8 * to .at + to .bits + bits l′ ≡ 8 * from .at + from .bits + bits l
+  pub long : length out′ ≡ length out
+  pub same : (rest : List Field) → Fits rest → outcome out′ to (l′ ++ rest) ≡ outcome out from (l ++ rest)
+
+-- so many running numbers at their start
+abbrev pub zeros : ℕ → List ℕ
+zeros zero = []
+zeros (suc n) = 0 ∷ zeros n
+
+-- what follows the vertices, where `waiting` bits are in a byte that is begun
+abbrev pub restFields : ℕ → ℕ → List Submesh → List Field
+restFields waiting m l = gap waiting ∷ (32, length l) ∷ submeshesFields (widthOf m) l
+
+-- ---- tables judged row by row
+
+-- a row within the limits, whose points are no more than are left
+unfoldable pub rowFits : ℕ → ℕ → ℕ → ℕ → Bool
+rowFits texture mode count left = cond (rowWithin texture mode count) (leb count left) false
+
+-- whole threes, each of which fits, and their counts take all that is left
+unfoldable pub rowsFit : List ℕ → ℕ → Bool
+rowsFit [] left = eqb left 0
+rowsFit (t ∷ m ∷ c ∷ more) left = cond (rowFits t m c left) (rowsFit more (left - c)) false
+rowsFit (t ∷ m ∷ []) left = false
+rowsFit (t ∷ []) left = false
+
+-- the lengths of three tables are within the limits: n words, v coordinate numbers, k words of rows
+unfoldable pub countsFit : ℕ → ℕ → ℕ → Bool
+countsFit n v k = ((((leb 1 n && leb n 10000) && eqb (v % 5) 0) && leb 1 (v / 5)) && leb (v / 5) 32000) && leb 1 k
+
+-- the box of k words of rows and q points need not be too long
+unfoldable pub lengthsFit : ℕ → ℕ → Bool
+lengthsFit k q = leb k 67108864 && leb q 536870912
+
+-- the size of a box: n words, v coordinate numbers of m vertices, k submeshes and q points
+abbrev pub sizeOf : ℕ → ℕ → ℕ → ℕ → ℕ → ℕ
+sizeOf n v m k q = 8 + (aligned (verticesAt n + v * widthOf n) + 32 + 48 * k + q * widthOf m + 7) / 8
+
+abbrev pub judgedSays : Judged → Verdict ℕ
+judgedSays (J.Size n) = accepted n
+judgedSays J.NoMesh = declined 13

@@ -1,0 +1,36 @@
+-- `probe_write_mesh` meets its contract. Assumes nothing.
+use Rattle.probe.proofs.Handed.{handed-filled}
+use borrow.Author.Needs.{needs}
+use Rattle.probe.proofs.meshes.probe_write_mesh.Statement.{statement}
+use Rattle.probe.proofs.meshes.probe_write_mesh.Tie as tie
+
+write-mesh-requires : tie.Need-write-mesh-requires
+write-mesh-requires c κs = search needs
+
+of-filled-requires : tie.Need-of-filled-requires
+of-filled-requires c κs = search needs
+
+tell-requires : tie.Need-tell-requires
+tell-requires c κs = search needs
+
+same-length : tie.Need-same-length
+same-length c = search needs
+
+same-length-2 : tie.Need-same-length-2
+same-length-2 c = search needs
+
+returns : tie.Need-returns
+returns c =
+    let t = c .before .before in
+    handed-filled _ (t .tell .ok) (t .tell .ensures) (t .before .of-filled .ensures) (t .before .before .before .before .write-mesh .ensures)
+
+pub probe-write-mesh-spec : {M : Type 1} → statement M
+probe-write-mesh-spec =
+    tie.close
+    (tie.spec
+    write-mesh-requires
+    of-filled-requires
+    tell-requires
+    same-length
+    same-length-2
+    returns)
