@@ -64,6 +64,12 @@ module _ {A B : Type 0} where
   pub then-no : (v : Verdict A) (f : A → Verdict B) (k : ℕ) → v ≡ declined k → andThen v f ≡ declined k
   then-no v f k e = rw e
 
+  -- one of the two was declined
+  pub then-declined : (v : Verdict A) (f : A → Verdict B) (k : ℕ) → andThen v f ≡ declined k → (v ≡ declined k) ⊎ ((x : A) × ((v ≡ accepted x) × (f x ≡ declined k)))
+  then-declined (accepted x) f k e = inr (x, (refl, e))
+  then-declined (needs l) f k e = let z : _≡_ {A = ℕ} 0 1 = cc in absurd (omega arith)
+  then-declined (declined j) f k e = let z : j ≡ k = cc in inl (rw z)
+
 -- ---- a verdict on another value
 
 module _ {A B : Type 0} (f : A → B) (v : Verdict A) where

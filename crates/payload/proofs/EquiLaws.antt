@@ -16,7 +16,7 @@ use Rattle.payload.specs.Words.{wordBytes}
 use Rattle.payload.specs.Equi.{cropOf, EquiSpells, fourWords, equiFields, equiUsable, equiRead, equiBytes, equiWritten}
 use Rattle.payload.specs.Laws.{EquiReads, EquiWrites, Equi32, PlainBytes}
 use Rattle.payload.specs.declared.equi.EquiFields.{EquiFields}
-use Rattle.payload.proofs.PayloadLaws.{number-there, number-read, full-box-there, full-box-read}
+use Rattle.payload.proofs.PayloadLaws.{number-there, number-read, full-box-there, full-box-read, Early, early-then, early-number, early-box}
 use Rattle.payload.proofs.ReadLaws.{reads-laws, writes-laws}
 use Rattle.payload.proofs.WordLaws.{length-wordBytes, field-wordBytes, first-byte, first-word, same-words}
 
@@ -144,3 +144,14 @@ written-back ρ s p e =
 
 pub equi-writes : EquiWrites
 equi-writes = writes-laws both written-spells written-back
+
+-- ---- the fields are declined only with 3 or 4
+
+pub fields-refusal : (s : List ℕ) → Early (equiFields s)
+unfolding equiFields fourWords
+fields-refusal s =
+    early-then (fullBox s) (fourWords s) (early-box s) (λ p.
+    early-then (numberAt 4 s p) _ (early-number 4 s p) (λ t.
+    early-then (numberAt 4 s (t .1)) _ (early-number 4 s (t .1)) (λ b.
+    early-then (numberAt 4 s (b .1)) _ (early-number 4 s (b .1)) (λ l.
+    early-then (numberAt 4 s (l .1)) _ (early-number 4 s (l .1)) (λ r k e. absurd (let z : _≡_ {A = ℕ} 0 1 = cc in omega arith))))))

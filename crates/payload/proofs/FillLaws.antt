@@ -11,7 +11,7 @@ use lib.Seq.{sets, sets-eq, length-sets, getD-append-add, length-take-le}
 use borrow.Author.Tests.{le-leb, lt-leb}
 use Rattle.bits.specs.Verdict.{Verdict, accepted, needs, declined}
 use Rattle.bits.proofs.VerdictLaws.{le-or-lt, within-yes, within-no}
-use Rattle.payload.specs.Fill.{each, answered, front}
+use Rattle.payload.specs.Fill.{each, answered, front, bothLengths}
 
 -- ---- pieces
 
@@ -171,3 +171,15 @@ module _ (u : ℕ) (v : Verdict (List ℕ)) (out : List ℕ) where
   pub told-same : (l : List ℕ) (r : Verdict ℕ) (t : List ℕ) → v ≡ accepted l → r ≡ answered u (accepted l) (length out) → t ≡ front (accepted l) out
       → (r ≡ answered u v (length out)) × (t ≡ front v out)
   told-same l r t e p q = (rw e p, rw e q)
+
+-- ---- the lengths of two lists
+
+module _ (v w : Verdict (List ℕ)) where
+  pub both-first : (k : ℕ) → v ≡ declined k → declined k ≡ bothLengths v w
+  both-first k e = sym (rw e)
+
+  pub both-second : (l : List ℕ) (k : ℕ) → v ≡ accepted l → w ≡ declined k → declined k ≡ bothLengths v w
+  both-second l k e f = sym (rw (e, f))
+
+  pub both-yes : (l m : List ℕ) (n f : ℕ) → v ≡ accepted l → w ≡ accepted m → n ≡ length l → f ≡ length m → accepted (n, f) ≡ bothLengths v w
+  both-yes l m n f e g h i = rw (e, g, h, i)

@@ -1,17 +1,18 @@
 -- Laws of a payload's limit, of the numbers in it, and of the version byte with its three free bytes. Assumes nothing.
 use mathlib.Core.Path.{_≡_, ap, _∙_}
-use mathlib.Core.Bool.{cond}
+use mathlib.Core.Bool.{Bool, true, false, cond}
 use mathlib.Core.List.{List}
+use mathlib.Core.Logic.{_⊎_, inl, inr}
 use Prim.Native.Nat.{ℕ, _+_, _*_, _≤_, _<_}
 use native.Mathlib.Decide.{ℕ-discrete}
 use native.Mathlib.Omega.{arith}
 use lib.ListN.{length}
 use lib.Dec.{eqb}
 use borrow.Author.Tests.{le-leb, lt-leb, eq-eqb, ne-eqb}
-use Rattle.bits.specs.Verdict.{Verdict, accepted, declined}
+use Rattle.bits.specs.Verdict.{Verdict, accepted, declined, andThen}
 use Rattle.bits.specs.Field.{field}
 use Rattle.bits.specs.Read.{numberAt, placeIn}
-use Rattle.bits.proofs.VerdictLaws.{within-yes, within-value, then-value}
+use Rattle.bits.proofs.VerdictLaws.{within-yes, within-value, within-refused, then-value, then-declined}
 use Rattle.payload.specs.Payload.{limited, fullBox}
 
 module _ {A : Type 0} (s : List ℕ) (v : Verdict A) where
@@ -59,3 +60,30 @@ module _ (s : List ℕ) where
           let d : declined 4 ≡ accepted p = rw (ne-eqb x 0 z) at h in
           let w : _≡_ {A = ℕ} 0 1 = cc in
           absurd (omega arith)
+
+-- ---- which numbers the fields of kinds 0 and 1 are declined with
+
+-- only with 3 or 4, if at all
+abbrev pub Early : {A : Type 0} → Verdict A → Type 0
+Early v = (k : ℕ) → v ≡ declined k → k ≤ 4
+
+pub early-then : {A B : Type 0} (v : Verdict A) (f : A → Verdict B) → Early v → ((x : A) → Early (f x)) → Early (andThen v f)
+early-then {A} v f h g k e = go (then-declined v f k e)
+  where
+    go : (v ≡ declined k) ⊎ ((x : A) × ((v ≡ accepted x) × (f x ≡ declined k))) → k ≤ 4
+    go (inl p) = h k p
+    go (inr (x, p)) = g x k (p .1)
+
+pub early-number : (n : ℕ) (s : List ℕ) (p : ℕ) → Early (numberAt n s p)
+early-number n s p k e = omega (arith, within-refused (p + n) (length s) (field s (8 * p) (8 * n), p + n) 3 k e .1)
+
+early-place : (s : List ℕ) (p : ℕ) → Early (placeIn s p)
+early-place s p k e = omega (arith, within-refused p (length s) p 3 k e .1)
+
+pub early-box : (s : List ℕ) → Early (fullBox s)
+unfolding fullBox
+early-box s = early-then (numberAt 1 s 0) _ (early-number 1 s 0) (λ x k e. version (eqb (x .0) 0) (x .1) k e)
+  where
+    version : (b : Bool) (q k : ℕ) → cond b (placeIn s (q + 3)) (declined 4) ≡ declined k → k ≤ 4
+    version true q k e = early-place s (q + 3) k e
+    version false q k e = let z : 4 ≡ k = cc in omega arith

@@ -4,9 +4,11 @@ use mathlib.Core.List.{List, [], _∷_, _++_}
 use mathlib.Core.Bool.{Bool, cond}
 use lib.ListN.{length, drop}
 use lib.Dec.{leb}
-use Rattle.bits.specs.Verdict.{Verdict, accepted, needs, declined, within}
+use Rattle.bits.specs.Verdict.{Verdict, accepted, needs, declined, within, andThen, mapped}
 use Rattle.payload.specs.declared.answers.Filled.{Filled}
 use Rattle.payload.specs.declared.answers.Filled.the-variants as F
+use Rattle.payload.specs.declared.answers.GridLengths.{GridLengths}
+use Rattle.payload.specs.declared.answers.GridLengths.the-variants as G
 
 -- f 0, f 1, .. f (n - 1), one after the other
 unfoldable pub each : {A : Type 0} → (ℕ → List A) → ℕ → List A
@@ -33,3 +35,12 @@ abbrev pub front : Verdict (List ℕ) → List ℕ → List ℕ
 front (accepted l) out = begun (leb (length l) (length out)) l out
 front (needs k) out = out
 front (declined k) out = out
+
+-- ---- the lengths of two lists, or the first refusal
+
+abbrev pub bothLengths : Verdict (List ℕ) → Verdict (List ℕ) → Verdict (ℕ × ℕ)
+bothLengths v w = andThen v (λ l. mapped (λ m. (length l, length m)) w)
+
+abbrev pub lengthsSaid : GridLengths → Verdict (ℕ × ℕ)
+lengthsSaid (G.Lengths n f) = accepted (n, f)
+lengthsSaid (G.Declined k) = declined k

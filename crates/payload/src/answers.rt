@@ -4,3 +4,9 @@ pub enum Filled {
     Needs(usize),
     Declined(u8),
 }
+
+// How long the two lists of a grid are, or the number of a refusal.
+pub enum GridLengths {
+    Lengths { numbers: usize, floats: usize },
+    Declined(u8),
+}

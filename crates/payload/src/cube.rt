@@ -1,5 +1,6 @@
 // The cube map: the triangles and the vertices of six faces, each a grid of cells.
 use super::answers::Filled;
+use super::answers::GridLengths;
 use super::put_triangle;
 use bits::float_bits;
 use bits::nearest_f32;
@@ -9,7 +10,7 @@ ghost use Prim.Native.Nat.{_+_, _<_, _≤_};
 ghost use lib.ListN.{length};
 ghost use lib.Seq.{sets};
 ghost use lib.Ieee.Scale.{finite};
-ghost use Rattle.payload.specs.Fill.{answered, front, filledSays};
+ghost use Rattle.payload.specs.Fill.{answered, front, filledSays, bothLengths, lengthsSaid};
 ghost use Rattle.payload.specs.Float.{ratio};
 ghost use Rattle.payload.specs.Cube.{cellsUsable, shareUsable, cubeRow, cubeFace, cubeTriangles, cubeNumbers, pointFace, cubePoints, cubeFloats};
 ghost use Rattle.payload.specs.CubeParts.{cellOf, faceOf, along, between, pointOf, rowOf};
@@ -269,6 +270,23 @@ pub fn cubemap_mesh(cells: u32, radius: f32, padding: f32, out: &mut [u32]) -> F
     }
     point_cube(cells, radius, padding, out);
     Filled::Count(count)
+}
+
+// How long the numbers and the vertices' floats are: 9, 11, or both lengths.
+pub fn cubemap_lengths(cells: u32, radius: f32, padding: f32) -> GridLengths
+    ensures { λ r. ⌜ lengthsSaid r ≡ bothLengths (cubeNumbers cells) (cubeFloats cells radius padding) ⌝ }
+{
+    if !cells_usable(cells) {
+        return GridLengths::Declined(9);
+    }
+    if !(is_finite(radius) & share_usable(padding)) {
+        return GridLengths::Declined(11);
+    }
+    let n = cells as usize;
+    GridLengths::Lengths {
+        numbers: 36 * (n * n),
+        floats: 30 * ((n + 1) * (n + 1)),
+    }
 }
 
 // The share of a face's width that its padding takes on each side.

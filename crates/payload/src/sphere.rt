@@ -1,5 +1,6 @@
 // The sphere's grid of rings and sectors: its triangles, as vertex numbers, and its texture coordinates, as bit patterns.
 use super::answers::Filled;
+use super::answers::GridLengths;
 use super::crop::Bounds;
 use super::put_triangle;
 ghost use mathlib.Core.Path.{_≡_};
@@ -9,7 +10,7 @@ ghost use Prim.Native.Nat.{_+_, _≤_, _<_};
 ghost use lib.ListN.{length};
 ghost use lib.Seq.{sets};
 ghost use Rattle.bits.specs.Float.{bitsOf};
-ghost use Rattle.payload.specs.Fill.{each, filledSays, answered, front};
+ghost use Rattle.payload.specs.Fill.{each, filledSays, answered, front, bothLengths, lengthsSaid};
 ghost use Rattle.payload.specs.Float.{f1, _⊖_, ratio};
 ghost use Rattle.payload.specs.Crop.{full};
 ghost use Rattle.payload.specs.Sphere.{gridUsable, shifted, cellOn, gridRow, gridTriangles, sphereNumbers, uvRow, gridUvs, sphereUvs};
@@ -200,4 +201,19 @@ pub fn sphere_uvs(rings: u32, sectors: u32, out: &mut [u32]) -> Filled
     }
     fill_uv_rows(rings, sectors, out);
     Filled::Count(vertices)
+}
+
+// How long the numbers and the texture coordinates of the covered patch are: 9, 10, or both lengths.
+pub fn sphere_lengths(rings: u32, sectors: u32, bounds: Bounds) -> GridLengths
+    ensures { λ r. ⌜ lengthsSaid r ≡ bothLengths (sphereNumbers rings sectors bounds) (sphereUvs rings sectors) ⌝ }
+{
+    if !grid_usable(rings, sectors) {
+        return GridLengths::Declined(9);
+    }
+    if !bounds.is_usable() {
+        return GridLengths::Declined(10);
+    }
+    let numbers = index_total(rings, sectors, bounds.top == 0.0, bounds.bottom == 0.0);
+    let floats = 2 * ((rings as usize + 1) * (sectors as usize + 1));
+    GridLengths::Lengths { numbers, floats }
 }

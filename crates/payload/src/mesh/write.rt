@@ -82,9 +82,10 @@ fn put_submesh(
     requires { ⌜ width ≤ 32 ⌝ }
     ensures { λ r. ⌜ Advances (now (out .entry)) from (submeshFields width (record { texture = texture; mode = mode; points = now (points .entry) })) (now (out .exit)) r [] ⌝ }
 {
+    let count = points.len() as u32;
     let a = put(out, from, 8, texture);
     let b = put(out, a, 8, mode);
-    let c = put(out, b, 32, points.len() as u32);
+    let c = put(out, b, 32, count);
     put_run(out, c, width, 1, points)
 }
 

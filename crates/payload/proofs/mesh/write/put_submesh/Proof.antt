@@ -7,6 +7,10 @@ use Rattle.payload.proofs.WriterLaws.{first-ready, on-first, on-last, o
 use Rattle.payload.proofs.mesh.write.put_submesh.Statement.{statement}
 use Rattle.payload.proofs.mesh.write.put_submesh.Tie as tie
 
+cast-count : tie.Need-cast-count
+unfolding submeshFields
+cast-count c = record { fits = c .before .before .pre .0 .fits .1 .1 .0 }
+
 put-requires : tie.Need-put-requires
 unfolding submeshFields
 put-requires c κs = (first-ready _ _ (c .before .before .before .pre .0), omega arith)
@@ -14,10 +18,6 @@ put-requires c κs = (first-ready _ _ (c .before .before .before .pre .0), omega
 put-requires-2 : tie.Need-put-requires-2
 unfolding submeshFields
 put-requires-2 c κs = let w = on-first _ _ (on-start (c .before .before .before .before .before .before .before .pre .0)) (c .before .before .before .put .ensures) in (first-ready _ _ (w .0), omega arith)
-
-cast-put : tie.Need-cast-put
-unfolding submeshFields
-cast-put c = record { fits = c .before .before .before .before .before .before .before .before .before .before .before .pre .0 .fits .1 .1 .0 }
 
 put-requires-3 : tie.Need-put-requires-3
 unfolding submeshFields
@@ -38,9 +38,9 @@ pub put-submesh-spec : {M : Type 1} → statement M
 put-submesh-spec =
     tie.close
     (tie.spec
+    cast-count
     put-requires
     put-requires-2
-    cast-put
     put-requires-3
     put-run-requires
     same-length
