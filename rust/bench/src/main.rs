@@ -1,14 +1,17 @@
 //! Times of the reference and of libprobe.a on the same data, the two sides in turn.
 //!
-//! `bench` prints the tables. `bench once rust|ours small|random|tiny` runs one side once, in `meshes::counted`, for an
-//! instruction counter.
+//! `bench` prints the tables. `bench once rust|ours small|random|tiny` runs one side of the mesh reader once, in
+//! `meshes::counted`, for an instruction counter, and `bench once rust|ours writer small|random` one of the mesh writer,
+//! in `writer::counted`.
 
 mod fields;
 mod fills;
+mod mesh_box;
 mod mesh_lists;
 mod meshes;
 mod random;
 mod timing;
+mod writer;
 
 use std::process::ExitCode;
 
@@ -25,10 +28,14 @@ fn main() -> ExitCode {
 
 fn run(words: &[&str]) -> Result<(), String> {
     match words {
-        [] => [fields::table, fills::table, meshes::table]
+        [] => [fields::table, fills::table, meshes::table, writer::table]
             .iter()
             .try_for_each(|table| table()),
         ["once", side, list] => meshes::once(side, list),
-        _ => Err("asked for neither the tables nor `once SIDE LIST`".to_string()),
+        ["once", side, "writer", steps] => writer::once(side, steps),
+        _ => Err(
+            "asked for none of the tables, `once SIDE LIST` and `once SIDE writer STEPS`"
+                .to_string(),
+        ),
     }
 }

@@ -22,14 +22,21 @@ const BOXES: usize = 50_000;
 const MESHES: usize = 60;
 /// So many meshes are spoiled in each way and in each two ways.
 const SPOILED: usize = 4;
-/// Vertices of the longest boxes. Their points have fields of 16, 16 and 15 bits, and the second
-/// mesh takes a byte less for its vertices: one point more makes the boxes 67108866, 67108865 and
-/// 67108866 bytes long.
-const LONGEST_VERTICES: [usize; 3] = [32_000, 31_998, 16_384];
+/// So many large meshes, with several counts around their limits.
+const LARGE: usize = 60;
+const POOLS: [usize; 8] = [1, 2, 4_097, 8_192, 9_999, 10_000, 10_000, 10_001];
+const VERTICES: [usize; 8] = [1, 5, 16_384, 16_385, 31_999, 32_000, 32_000, 32_001];
+const POINTS: [usize; 8] = [1, 2, 3, 65_537, 127_999, 128_000, 128_000, 128_001];
+/// Vertices of the longest boxes. These leave 0, 1 and 14 bits of the 67108864 bytes, so that the
+/// third box is a byte shorter, and one point more is 16, 14 and 1 bits too long.
+const LONGEST_VERTICES: [usize; 3] = [32_000, 16_380, 16_362];
 /// Bits of a submesh before its points.
 const ROW_BITS: usize = 8 + 8 + 32;
 const MOST_SHOWN: usize = 40;
 const SAME: &str = "the same";
+
+/// The box, or the number of the refusal.
+type Due = Result<Vec<u8>, i64>;
 
 struct Writer {
     random: Random,
@@ -58,6 +65,9 @@ pub fn run(options: &Options) -> Vec<Tally> {
         writer.spoils();
     }
     writer.large();
+    for _ in 0..LARGE * times {
+        writer.several_limits();
+    }
     writer.longest(options.long);
     let Writer {
         written,
@@ -84,15 +94,15 @@ impl Writer {
                 "tables with one or two faults that 13 names, the buffer as it was",
             ),
             rust: tally(
-                "mesh_writer boxes",
-                "the written box as mesh::parse_meshes reads it",
+                "mesh_writer read by the Rust",
+                "written boxes, their points followed to five pool words",
             ),
             rounds: tally(
                 "mesh_writer round trips",
                 "tables written, read with parse_mesh, and written again",
             ),
             boxes: tally(
-                "mesh_writer from boxes",
+                "mesh_writer boxes",
                 "boxes read with parse_mesh and written, their free bits 0 and nothing behind them",
             ),
         }
@@ -100,7 +110,7 @@ impl Writer {
 
     fn check(&mut self, tables: &Tables) {
         let due = write_mesh(tables);
-        write(&mut self.written, &mut self.random, tables, &due);
+        write(&mut self.written, &mut self.random, tables, &due, &[]);
         if due.is_ok() {
             let submeshes = tables.submeshes.len() / ROW;
             self.round_trip(tables, submeshes <= MOST_SUBMESHES as usize);
@@ -136,24 +146,27 @@ impl Writer {
 
     fn every_spoil(&mut self) {
         let mesh = mesh_payloads::mesh(&mut self.random);
-        every_place(&Tables::from(&mesh), |tables| self.check_refused(tables));
+        every_place(&Tables::from(&mesh), |tables| {
+            self.check_refused(tables, &[]);
+        });
     }
 
     /// Each spoil alone, and each two, which may cancel out.
     fn spoils(&mut self) {
-        for first in &SPOILS {
+        for first in SPOILS {
             let tables = self.spoil(&[first]);
-            self.check_refused(&tables);
-            for second in &SPOILS {
+            self.check_refused(&tables, &[first.0]);
+            for second in SPOILS {
                 let tables = self.spoil(&[first, second]);
                 let due = write_mesh(&tables);
-                write(&mut self.spoiled, &mut self.random, &tables, &due);
+                let faults = [first.0, second.0];
+                write(&mut self.spoiled, &mut self.random, &tables, &due, &faults);
             }
         }
     }
 
     /// The tables of a small mesh after these spoils.
-    fn spoil(&mut self, spoils: &[&Spoil]) -> Tables {
+    fn spoil(&mut self, spoils: &[Spoil]) -> Tables {
         let mesh = mesh_payloads::mesh(&mut self.random);
         let mut tables = Tables::from(&mesh);
         for (_, spoil) in spoils {
@@ -163,11 +176,18 @@ impl Writer {
     }
 
     /// Checks that both the model and we refuse.
-    fn check_refused(&mut self, tables: &Tables) {
+    fn check_refused(&mut self, tables: &Tables, faults: &[&str]) {
         let refused = Err(NO_MESH);
         let agrees = write_mesh(tables) == refused;
-        self.spoiled.check(agrees, true, || excerpt(tables));
-        write(&mut self.spoiled, &mut self.random, tables, &refused);
+        self.spoiled
+            .check(agrees, true, || (faults.to_vec(), excerpt(tables)));
+        write(
+            &mut self.spoiled,
+            &mut self.random,
+            tables,
+            &refused,
+            faults,
+        );
     }
 
     fn large(&mut self) {
@@ -179,18 +199,27 @@ impl Writer {
         self.check(&Tables::from(&all));
     }
 
-    /// Boxes as long as they may be, and with a point more. The Rust takes 700 MB to read one.
+    fn several_limits(&mut self) {
+        let random = &mut self.random;
+        let submeshes = 1 + random.below(3);
+        let points: Vec<usize> = (0..submeshes).map(|_| random.pick(&POINTS)).collect();
+        let (pool, vertices) = (random.pick(&POOLS), random.pick(&VERTICES));
+        let mesh = sized(random, pool, vertices, &points);
+        self.check(&Tables::from(&mesh));
+    }
+
+    /// Boxes as long as they may be, and with a point more. To read one takes the Rust 700 MB.
     fn longest(&mut self, by_rust: bool) {
         for vertices in LONGEST_VERTICES {
             let mut tables = fullest(&mut self.random, vertices);
             let due = write_mesh(&tables);
-            write(&mut self.written, &mut self.random, &tables, &due);
+            write(&mut self.written, &mut self.random, &tables, &due, &[]);
             self.round_trip(&tables, by_rust);
             if let Some(count) = tables.submeshes.last_mut() {
                 *count += 1;
             }
             tables.points.push(0);
-            self.check_refused(&tables);
+            self.check_refused(&tables, &["a box that is too long"]);
         }
     }
 }
@@ -208,17 +237,18 @@ fn fullest(random: &mut Random, vertices: usize) -> Tables {
     Tables::from(&sized(random, 1, vertices, &counts))
 }
 
-fn write(tally: &mut Tally, random: &mut Random, tables: &Tables, due: &Result<Vec<u8>, i64>) {
+/// Writes on buffers of several lengths. The faults of the tables are only shown.
+fn write(tally: &mut Tally, random: &mut Random, tables: &Tables, due: &Due, faults: &[&str]) {
     let lent = match due {
         Ok(written) => lengths(random, [written.len()]),
         Err(_) => refused_lengths(random),
     };
     for [lent] in lent {
-        write_on(tally, tables, due, lent);
+        write_on(tally, tables, due, faults, lent);
     }
 }
 
-fn write_on(tally: &mut Tally, tables: &Tables, due: &Result<Vec<u8>, i64>, lent: usize) {
+fn write_on(tally: &mut Tally, tables: &Tables, due: &Due, faults: &[&str], lent: usize) {
     let (answer, after) = match due {
         Err(refusal) => (Answer::refused(*refusal), &[][..]),
         Ok(written) if written.len() > lent => (Answer::needs(written.len()), &[][..]),
@@ -226,7 +256,9 @@ fn write_on(tally: &mut Tally, tables: &Tables, due: &Result<Vec<u8>, i64>, lent
     };
     let mut out = Table::new("byte", after, lent);
     let replies = tally.ask(&answer, |words| call(tables, out.lent(), words));
-    tables::check(tally, replies, &[&out], || (lent, excerpt(tables)));
+    tables::check(tally, replies, &[&out], || {
+        (faults.to_vec(), lent, excerpt(tables))
+    });
 }
 
 fn call(tables: &Tables, out: &mut [u8], words: &mut [u64]) -> i64 {
