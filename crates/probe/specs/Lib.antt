@@ -2,3 +2,4 @@
 pub mod Answer
 pub mod Shown
 pub mod Total
+pub mod Scene

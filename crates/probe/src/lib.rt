@@ -1,4 +1,4 @@
-// The calls of `bits` and `payload` as C functions on numbers and slices, for tests and benchmarks only.
+// The calls of `bits`, `payload` and `scene` as C functions on numbers and slices, for tests and benchmarks only.
 // A call answers an i64, and where its value is not that number it stores the value's words in a lent slice (specs/Answer.antt).
 mod bytes;
 mod counts;
@@ -9,4 +9,5 @@ mod meshes;
 mod numbers;
 mod put;
 mod reply;
+mod scene_call;
 mod view;

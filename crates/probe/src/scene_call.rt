@@ -1,0 +1,90 @@
+// The scene call.
+use super::reply::Reply;
+use super::reply::tell;
+use super::reply::word;
+use scene::SceneAnswer;
+ghost use mathlib.Core.Path.{_≡_};
+ghost use lib.ListN.{length};
+ghost use Rattle.scene.specs.Scene.{given, sceneAnswer, sceneSays, scenePart, numbersOf, floatsOf, recordsOf};
+ghost use Rattle.probe.specs.Answer.{answers, leaves, told, says};
+ghost use Rattle.probe.specs.Scene.{sceneWords};
+
+fn of_scene(x: SceneAnswer) -> Reply
+    ensures { λ r. ⌜ says r ≡ told sceneWords (sceneSays x) ⌝ }
+{
+    match x {
+        SceneAnswer::Crop(b, n) => Reply::Eight(
+            0,
+            word(b.top),
+            word(b.bottom),
+            word(b.left),
+            word(b.right),
+            n.numbers as u64,
+            n.floats as u64,
+            n.records as u64,
+        ),
+        SceneAnswer::Padding(p, n) => Reply::Eight(
+            1,
+            p as u64,
+            0,
+            0,
+            0,
+            n.numbers as u64,
+            n.floats as u64,
+            n.records as u64,
+        ),
+        SceneAnswer::Meshes(c, n) => Reply::Eight(
+            2,
+            c.meshes as u64,
+            c.submeshes as u64,
+            c.points as u64,
+            0,
+            n.numbers as u64,
+            n.floats as u64,
+            n.records as u64,
+        ),
+        SceneAnswer::Needs(n) => Reply::NeedsThree(
+            n.numbers as u64,
+            n.floats as u64,
+            n.records as u64,
+        ),
+        SceneAnswer::Declined(k) => Reply::Declined(k),
+    }
+}
+
+#[no_mangle]
+pub extern "C" fn probe_scene(
+    kind: u32,
+    payload: &[u8],
+    rings: u32,
+    sectors: u32,
+    cells: u32,
+    radius: f32,
+    face_width: u32,
+    numbers: &mut [u16],
+    floats: &mut [u32],
+    records: &mut [u32],
+    words: &mut [u64],
+) -> i64
+    ensures { λ r. ⌜ r ≡ answers (told sceneWords (sceneAnswer kind (given rings sectors cells radius «face_width») (now (payload .entry)) (length (now (numbers .entry))) (length (now (floats .entry))) (length (now (records .entry))))) ⌝ }
+    ensures { λ _. ⌜ now (words .exit) ≡ leaves (now (words .entry)) (told sceneWords (sceneAnswer kind (given rings sectors cells radius «face_width») (now (payload .entry)) (length (now (numbers .entry))) (length (now (floats .entry))) (length (now (records .entry))))) ⌝ }
+    ensures { λ _. ⌜ now (numbers .exit) ≡ scenePart numbersOf kind (given rings sectors cells radius «face_width») (now (payload .entry)) (length (now (numbers .entry))) (length (now (floats .entry))) (length (now (records .entry))) (now (numbers .entry)) ⌝ }
+    ensures { λ _. ⌜ now (floats .exit) ≡ scenePart floatsOf kind (given rings sectors cells radius «face_width») (now (payload .entry)) (length (now (numbers .entry))) (length (now (floats .entry))) (length (now (records .entry))) (now (floats .entry)) ⌝ }
+    ensures { λ _. ⌜ now (records .exit) ≡ scenePart recordsOf kind (given rings sectors cells radius «face_width») (now (payload .entry)) (length (now (numbers .entry))) (length (now (floats .entry))) (length (now (records .entry))) (now (records .entry)) ⌝ }
+{
+    tell(
+        words,
+        of_scene(scene::scene(
+            kind,
+            payload,
+            rings,
+            sectors,
+            cells,
+            radius,
+            face_width,
+            numbers,
+            floats,
+            records,
+        )),
+    )
+}
