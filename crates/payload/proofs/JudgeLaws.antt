@@ -2,14 +2,16 @@
 use Prim.Native.Nat.{ℕ, suc, _+_, _-_, _*_, _/_, _%_, _^_, _≤_, _<_}
 use mathlib.Core.Path.{_≡_, refl, sym, ap, _∙_}
 use mathlib.Core.List.{List, [], _∷_}
-use mathlib.Core.Bool.{Bool, true, false, cond, _&&_}
+use mathlib.Core.Bool.{Bool, true, false, cond, not, _&&_, _||_}
+use mathlib.Core.Logic.{_⊎_, inl, inr}
 use native.Mathlib.Omega.{arith}
 use native.Mathlib.Nat.{mul-le-mul, mul-le-mul-left}
 use lib.Dec.{leb, ltb, eqb}
 use lib.ListN.{length, getD, drop}
-use borrow.Author.Tests.{leb-true, eqb-true, ltb-true, le-leb, eq-eqb, lt-ltb, le-ltb}
+use borrow.Author.Tests.{leb-true, eqb-true, ltb-true, le-leb, lt-leb, eq-eqb, lt-ltb, le-ltb}
 use Rattle.bits.specs.Number.{widthOf}
 use Rattle.bits.specs.Verdict.{accepted, declined, mapped}
+use Rattle.bits.proofs.VerdictLaws.{le-or-lt}
 use Rattle.payload.specs.Laws.{Words32}
 use Rattle.payload.specs.Mesh.{Mesh}
 use Rattle.payload.specs.MeshWrite.{allBelow, boxSize, every, isMesh, meshBox, meshWritten, tablesMesh}
@@ -42,17 +44,22 @@ bits-most n v m q a b h i e f =
 -- ---- numbers below a limit
 
 module _ (limit : ℕ) (l : List ℕ) (i : ℕ) where
-  pub all-on : i < length l → getD l i 0 < limit → allBelow limit (drop i l) ≡ allBelow limit (drop (i + 1) l)
+  pub all-on : (above : Bool) → i < length l → (not above && allBelow limit (drop i l)) ≡ (not (above || leb limit (getD l i 0)) && allBelow limit (drop (i + 1) l))
   unfolding allBelow
-  all-on h b = ap (allBelow limit) (rest-cons l i h) ∙ simp (lt-ltb _ _ b)
+  all-on above h = ap (λ (k : List ℕ). not above && allBelow limit k) (rest-cons l i h) ∙ go above (le-or-lt limit (getD l i 0))
+    where
+      go : (b : Bool) → (limit ≤ getD l i 0) ⊎ (getD l i 0 < limit) → (not b && cond (ltb (getD l i 0) limit) (allBelow limit (drop (i + 1) l)) false) ≡ (not (b || leb limit (getD l i 0)) && allBelow limit (drop (i + 1) l))
+      go true d = refl
+      go false (inl d) = rw (le-ltb (getD l i 0) limit d, le-leb limit (getD l i 0) d)
+      go false (inr d) = rw (lt-ltb (getD l i 0) limit d, lt-leb limit (getD l i 0) d)
 
-  pub all-out : i < length l → limit ≤ getD l i 0 → allBelow limit (drop i l) ≡ false
+  pub all-end : (above : Bool) → length l ≤ i → (not above && allBelow limit (drop i l)) ≡ not above
   unfolding allBelow
-  all-out h b = ap (allBelow limit) (rest-cons l i h) ∙ simp (le-ltb _ _ b)
-
-  pub all-end : length l ≤ i → allBelow limit (drop i l) ≡ true
-  unfolding allBelow
-  all-end h = ap (allBelow limit) (rest-none l i h)
+  all-end above h = ap (λ (k : List ℕ). not above && allBelow limit k) (rest-none l i h) ∙ go above
+    where
+      go : (b : Bool) → (not b && true) ≡ not b
+      go true = refl
+      go false = refl
 
 pub below-under : (limit : ℕ) (l : List ℕ) → allBelow limit l ≡ true → Under limit l
 unfolding allBelow

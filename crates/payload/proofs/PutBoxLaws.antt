@@ -31,7 +31,7 @@ boxFields x = (32, boxSize x) ∷ (32, meshType) ∷ meshFields x
 module _ (x : Mesh) (h : Within x) (out : List ℕ) (fits : boxSize x ≤ length out) where
   box-ready : Ready out start (boxFields x)
   unfolding bits
-  box-ready = record { few = omega arith; held = omega arith; fits = (omega (arith, h .size), (omega arith, mesh-fit x h)); room = omega arith }
+  box-ready = record { few = omega arith; fits = (omega (arith, h .size), (omega arith, mesh-fit x h)); room = omega arith }
 
   box-done : outcome out start (boxFields x ++ []) ≡ sets out 0 (meshBox x)
   unfolding meshBox meshBody bits number

@@ -1,20 +1,21 @@
--- Bits on their way into a buffer: a field that waits, four bytes that go out, and the end.
+-- Bits on their way into a buffer: a field that waits, four bytes that go out, and the end. Assumes nothing.
 use Prim.Native.Nat.{ℕ, zero, suc, _+_, _-_, _*_, _/_, _%_, _^_, _≤_, _<_}
 use mathlib.Core.Path.{_≡_, refl, sym, ap, ap₂, _∙_, subst}
 use mathlib.Core.List.{List, [], _∷_, _++_, append-assoc, append-nil}
 use native.Mathlib.Omega.{arith}
-use native.Mathlib.Nat.{mod-eq-of-lt, mul-assoc, add-mul, add-assoc, mod-lt, lt-of-lt-of-le}
-use lib.ListN.{length}
-use lib.Pow.{pow-add, pow-pos, pow-mono, shr-lt, split, shl-exact}
-use lib.Seq.{sets, length-sets}
+use native.Mathlib.Nat.{mod-eq-of-lt, mul-assoc, add-mul, add-assoc, add-zero, mod-lt}
+use lib.ListN.{length, set}
 use lib.Arith.{digits-lt}
-use Rattle.bits.specs.Field.{field, room}
-use Rattle.bits.specs.Put.{bitsPut, bytesOf, fieldPut, wordPut}
+use lib.Pow.{pow-add, pow-pos, shr-lt, shl-shr, split, high, low, mod-pow-add, mod-mod-pow}
+use lib.Pow as Pow
+use lib.Seq.{sets, length-sets}
+use Rattle.bits.specs.Field.{field}
+use Rattle.bits.specs.Put.{bitsPut, bytesOf, fieldPut}
 use Rattle.bits.proofs.ByteLaws.{length-bytes}
 use Rattle.bits.proofs.FieldLaws.{field-zero}
-use Rattle.bits.proofs.PutLaws.{cat-lt, field-put-yes, word-put-yes}
+use Rattle.bits.proofs.PutLaws.{cat-lt, field-put-yes}
 use Rattle.payload.specs.Packed.{Field, Fits, bits, number, packed, spare}
-use Rattle.payload.specs.Writing.{Advances, Ready, outcome}
+use Rattle.payload.specs.Writing.{Advances, Ready, outcome, waiting}
 use Rattle.payload.specs.declared.mesh.bit_writer.BitWriter.{BitWriter}
 use Rattle.payload.proofs.FillLaws.{sets-append}
 use Rattle.payload.proofs.PackedLaws.{bits-append, bytes-first, bytes-low, fits-append, packed-join, packed-out}
@@ -22,11 +23,11 @@ use Rattle.payload.proofs.PackedLaws.{bits-append, bytes-first, bytes-l
 -- ---- steps
 
 pub advances-here : {out : List ℕ} {from : BitWriter} {l : List Field} → Ready out from l → Advances out from l out from l
-advances-here r = record { few = r .few; held = r .held; place = refl; long = refl; same = λ rest f. refl }
+advances-here r = record { few = r .few; place = refl; long = refl; same = λ rest f. refl }
 
 pub advances-on : {o p q : List ℕ} {a b c : BitWriter} {l m n : List Field} → Advances o a l p b m → Advances p b m q c n → Advances o a l q c n
 advances-on g h =
-    record { few = h .few; held = h .held; place = h .place ∙ g .place; long = h .long ∙ g .long; same = λ rest f. h .same rest f ∙ g .same rest f }
+    record { few = h .few; place = h .place ∙ g .place; long = h .long ∙ g .long; same = λ rest f. h .same rest f ∙ g .same rest f }
 
 -- fields that are left stay left
 pub advances-more : {o p : List ℕ} {a b : BitWriter} {l : List Field} (k : List Field) → Fits k → Advances o a l p b [] → Advances o a (l ++ k) p b k
@@ -34,7 +35,6 @@ unfolding bits
 advances-more {o} {p} {a} {b} {l} k f g =
     record {
       few = g .few;
-      held = g .held;
       place = omega (arith, g .place, bits-append l k);
       long = g .long;
       same = λ rest h. g .same (k ++ rest) (fits-append k rest f h) ∙ ap (outcome o a) (sym (append-assoc l k rest));
@@ -42,7 +42,7 @@ advances-more {o} {p} {a} {b} {l} k f g =
 
 -- what is left is ready, where the whole was
 pub still-ready : {o p : List ℕ} {a b : BitWriter} {l m : List Field} → Ready o a l → Fits m → Advances o a l p b m → Ready p b m
-still-ready r f g = record { few = g .few; held = g .held; fits = f; room = omega (arith, g .place, g .long, r .room) }
+still-ready r f g = record { few = g .few; fits = f; room = omega (arith, g .place, g .long, r .room) }
 
 -- ---- a part of the way: from a start, with l left
 
@@ -62,7 +62,7 @@ fits-right [] l f = f
 fits-right (x ∷ k) l f = fits-right k l (f .1)
 
 pub head-ready : {o : List ℕ} {a : BitWriter} (k l : List Field) → Ready o a (k ++ l) → Ready o a k
-head-ready k l r = record { few = r .few; held = r .held; fits = fits-left k l (r .fits); room = omega (arith, r .room, bits-append k l) }
+head-ready k l r = record { few = r .few; fits = fits-left k l (r .fits); room = omega (arith, r .room, bits-append k l) }
 
 pub on-step : {O o p : List ℕ} {A a b : BitWriter} {L : List Field} (k l : List Field) → Underway O A L o a (k ++ l) → Advances o a k p b [] → Underway O A L p b l
 on-step k l (r, g) s =
@@ -111,27 +111,46 @@ packed-bytes (suc n) k a f l h i g =
 
 -- ---- one field
 
--- the word of the bits that wait and a field fits, and so do the 32 bits above the lowest k
-pub high-fits : (x b w k : ℕ) → x < 2 ^ (b + w) → 32 + k ≡ b + w → x / 2 ^ k < 2 ^ 32
-high-fits x b w k h e = shr-lt 32 k (rw e h)
+-- what is held, shifted up: its high bits are lost, and the low ones make room
+shifted-up : (h w : ℕ) → w ≤ 32 → h * 2 ^ w % 2 ^ 64 ≡ h % 2 ^ (64 - w) * 2 ^ w
+shifted-up h w l =
+    let z : 64 - w + w ≡ 64 = omega arith in
+    let e : h * 2 ^ w % 2 ^ w ≡ 0 = ap (λ (x : ℕ). x % 2 ^ w) (sym (add-zero (h * 2 ^ w))) ∙ low h w {lo = 0} (pow-pos w) in
+    ap (λ (x : ℕ). h * 2 ^ w % 2 ^ x) (sym z)
+    ∙ mod-pow-add (h * 2 ^ w) (64 - w) w
+    ∙ ap₂ (λ (x y : ℕ). x % 2 ^ (64 - w) * 2 ^ w + y) (shl-shr h w) e
+    ∙ add-zero (h % 2 ^ (64 - w) * 2 ^ w)
 
-pub power-is : (k : ℕ) → k < 64 → 1 * 2 ^ k % 2 ^ 64 ≡ 2 ^ k
-power-is k h = shl-exact 1 k 64 (omega arith) (omega arith) ∙ omega arith
+pub joined-fits : (h w v : ℕ) → w ≤ 32 → v < 2 ^ w → h * 2 ^ w % 2 ^ 64 + v < 2 ^ 64
+joined-fits h w v l i =
+    let z : 64 - w + w ≡ 64 = omega arith in
+    rw (shifted-up h w l) (subst (λ (x : ℕ). h % 2 ^ (64 - w) * 2 ^ w + v < 2 ^ x) z (cat-lt (64 - w) w (mod-lt h (pow-pos (64 - w))) i))
+
+pub joined-is : (h b w v : ℕ) → b < 32 → w ≤ 32 → v < 2 ^ w → (h * 2 ^ w % 2 ^ 64 + v) % 2 ^ (b + w) ≡ h % 2 ^ b * 2 ^ w + v
+joined-is h b w v k l i =
+    let g : ℕ = h % 2 ^ (64 - w) in
+    let z : 64 - w - b + b ≡ 64 - w = omega arith in
+    let m : g % 2 ^ b ≡ h % 2 ^ b = ap (λ (x : ℕ). h % 2 ^ x % 2 ^ b) (sym z) ∙ mod-mod-pow h (64 - w - b) b in
+    ap (λ (x : ℕ). (x + v) % 2 ^ (b + w)) (shifted-up h w l)
+    ∙ mod-pow-add (g * 2 ^ w + v) b w
+    ∙ ap₂ (λ (x y : ℕ). x % 2 ^ b * 2 ^ w + y) (high g w i) (low g w i)
+    ∙ ap (λ (x : ℕ). x * 2 ^ w + v) m
 
 module _ (out : List ℕ) (from : BitWriter) (w v : ℕ) (r : Ready out from ((w, v) ∷ [])) where
-  pub word-lt : from .held * 2 ^ w + v < 2 ^ (from .bits + w)
-  word-lt = cat-lt (from .bits) w (r .held) (r .fits .0)
+  -- the word of the bits that wait and the field
+  word-lt : waiting from * 2 ^ w + v < 2 ^ (from .bits + w)
+  word-lt = cat-lt (from .bits) w (mod-lt (from .held) (pow-pos (from .bits))) (r .fits .0)
 
   -- it waits
-  pub put-waits : (to : BitWriter) → to .at ≡ from .at → to .held ≡ from .held * 2 ^ w + v → to .bits ≡ from .bits + w → from .bits + w < 32 → Advances out from ((w, v) ∷ []) out to []
+  pub put-waits : (to : BitWriter) → to .at ≡ from .at → to .bits ≡ from .bits + w → to .held % 2 ^ (from .bits + w) ≡ waiting from * 2 ^ w + v → from .bits + w < 32 → Advances out from ((w, v) ∷ []) out to []
   unfolding bits
-  put-waits to a h b l =
+  put-waits to a b h l =
+      let e : waiting to ≡ waiting from * 2 ^ w + v = ap (λ (x : ℕ). to .held % 2 ^ x) b ∙ h in
       record {
         few = omega arith;
-        held = rw (h, b) word-lt;
         place = omega arith;
         long = refl;
-        same = λ rest f. rw (a, h, b) (ap (sets out (from .at)) (sym (packed-join (from .bits) (from .held) w v rest)));
+        same = λ rest f. rw (a, e, b) (ap (sets out (from .at)) (sym (packed-join (from .bits) (waiting from) w v rest)));
       }
 
   -- 32 bits go out
@@ -139,45 +158,67 @@ module _ (out : List ℕ) (from : BitWriter) (w v : ℕ) (r : Ready out from ((w
   unfolding bits
   put-room h = omega (arith, r .room)
 
-  pub put-goes : (out′ : List ℕ) (to : BitWriter) (word k : ℕ) → word ≡ from .held * 2 ^ w + v → 32 + k ≡ from .bits + w → w ≤ 32 → out′ ≡ wordPut out (from .at) (word / 2 ^ k) → to .at ≡ from .at + 4 → to .held ≡ word % 2 ^ k → to .bits ≡ k
+  pub put-goes : (out′ : List ℕ) (to : BitWriter) (k : ℕ) → 32 + k ≡ from .bits + w → w ≤ 32 → to .held % 2 ^ (from .bits + w) ≡ waiting from * 2 ^ w + v → out′ ≡ sets out (from .at) (bytesOf 4 (to .held / 2 ^ k % 2 ^ 32)) → to .at ≡ from .at + 4 → to .bits ≡ k
       → Advances out from ((w, v) ∷ []) out′ to []
   unfolding bits
-  put-goes out′ to word k d e u o a h b =
-      let f : ℕ = word / 2 ^ k in
-      let i : out′ ≡ sets out (from .at) (bytesOf 4 f) = o ∙ word-put-yes out (from .at) f (put-room (omega arith)) in
-      let q : f * 2 ^ k + word % 2 ^ k ≡ word = split word k in
-      let dl : word % 2 ^ k < 2 ^ k = mod-lt word (pow-pos k) in
-      let fl : f < 2 ^ (8 * 4) = shr-lt 32 k (rw (d, e) word-lt) in
+  put-goes out′ to k e u d o a b =
+      let x : ℕ = waiting from * 2 ^ w + v in
+      let c : to .held % 2 ^ (32 + k) ≡ waiting from * 2 ^ w + v = ap (λ (y : ℕ). to .held % 2 ^ y) e ∙ d in
+      let g : to .held / 2 ^ k % 2 ^ 32 ≡ x / 2 ^ k = sym (Pow.field (to .held) 32 k) ∙ ap (λ (y : ℕ). y / 2 ^ k) c in
+      let h : waiting to ≡ x % 2 ^ k = ap (λ (y : ℕ). to .held % 2 ^ y) b ∙ sym (mod-mod-pow (to .held) 32 k) ∙ ap (λ (y : ℕ). y % 2 ^ k) c in
+      let i : out′ ≡ sets out (from .at) (bytesOf 4 (x / 2 ^ k)) = o ∙ ap (λ (y : ℕ). sets out (from .at) (bytesOf 4 y)) g in
+      let f : ℕ = x / 2 ^ k in
+      let q : f * 2 ^ k + x % 2 ^ k ≡ x = split x k in
+      let dl : x % 2 ^ k < 2 ^ k = mod-lt x (pow-pos k) in
+      let fl : f < 2 ^ (8 * 4) = shr-lt 32 k (rw e word-lt) in
       record {
         few = omega (arith, r .few);
-        held = rw (h, b) dl;
         place = omega arith;
         long = ap length i ∙ length-sets out (from .at) (bytesOf 4 f);
-        same = λ rest g.
+        same = λ rest m.
             rw (a, h, b, i)
-            (ap (λ (j : ℕ). sets (sets out (from .at) (bytesOf 4 f)) j (packed ((k, word % 2 ^ k) ∷ rest))) (ap (λ (j : ℕ). from .at + j) (sym (length-bytes 4 f)))
-            ∙ sym (sets-append (bytesOf 4 f) (packed ((k, word % 2 ^ k) ∷ rest)) out (from .at))
-            ∙ ap (sets out (from .at)) (sym (packed-bytes 4 k (word % 2 ^ k) f rest dl fl g) ∙ ap₂ (λ (x y : ℕ). packed ((x, y) ∷ rest)) e (q ∙ d) ∙ sym (packed-join (from .bits) (from .held) w v rest)));
+            (ap (λ (j : ℕ). sets (sets out (from .at) (bytesOf 4 f)) j (packed ((k, x % 2 ^ k) ∷ rest))) (ap (λ (j : ℕ). from .at + j) (sym (length-bytes 4 f)))
+            ∙ sym (sets-append (bytesOf 4 f) (packed ((k, x % 2 ^ k) ∷ rest)) out (from .at))
+            ∙ ap (sets out (from .at)) (sym (packed-bytes 4 k (x % 2 ^ k) f rest dl fl m) ∙ ap₂ (λ (y z : ℕ). packed ((y, z) ∷ rest)) e q ∙ sym (packed-join (from .bits) (waiting from) w v rest)));
       }
+
+-- ---- four bytes
+
+four-sets : (out : List ℕ) (at a b c d : ℕ) → set (set (set (set out at a) (at + 1) b) (at + 2) c) (at + 3) d ≡ sets out at (a ∷ b ∷ c ∷ d ∷ [])
+four-sets out at a b c d =
+    let e : at + 1 ≡ suc at = omega arith in
+    let f : at + 2 ≡ suc (suc at) = omega arith in
+    let g : at + 3 ≡ suc (suc (suc at)) = omega arith in
+    rw (e, f, g)
+
+four-bytes : (x : ℕ) → x < 2 ^ 32 → bytesOf 4 x ≡ x / 16777216 ∷ x / 65536 % 256 ∷ x / 256 % 256 ∷ x % 256 ∷ []
+unfolding bytesOf
+four-bytes x h =
+    let e : x / 256 / 256 / 256 % 256 ≡ x / 16777216 = omega arith in
+    let f : x / 256 / 256 % 256 ≡ x / 65536 % 256 = omega arith in
+    ap₂ (λ (a b : ℕ). a ∷ b ∷ x / 256 % 256 ∷ x % 256 ∷ []) e f
+
+pub put-four-sets : (out : List ℕ) (at x : ℕ) → x < 2 ^ 32
+    → set (set (set (set out at (x / 16777216)) (at + 1) (x / 65536 % 256)) (at + 2) (x / 256 % 256)) (at + 3) (x % 256) ≡ sets out at (bytesOf 4 x)
+put-four-sets out at x h = four-sets out at _ _ _ _ ∙ ap (sets out at) (sym (four-bytes x h))
 
 -- ---- the end
 
-module _ (out : List ℕ) (from : BitWriter) (r : Ready out from []) where
-  pub held-lt : from .held < 2 ^ 32
-  held-lt = lt-of-lt-of-le (r .held) (pow-mono {j = 32} (omega (arith, r .few)))
-
-  pub finish-is : fieldPut out (8 * from .at) (from .bits) (from .held) ≡ outcome out from []
-  unfolding bits number packed bitsPut
-  finish-is =
-      let p : ℕ = 8 * from .at in
-      let k : ℕ = from .bits in
-      let a : p / 8 ≡ from .at = omega arith in
-      let o : p % 8 ≡ 0 = omega arith in
-      let t : (0 + k + 7) / 8 ≡ (k + 0 + 7) / 8 = omega arith in
-      let u : 8 * ((0 + k + 7) / 8) - 0 - k ≡ spare (k + 0) = omega arith in
-      let e : (field out (8 * (p / 8)) (p % 8) * 2 ^ k + from .held) ≡ 0 * 2 ^ k + from .held = ap (λ (x : ℕ). x * 2 ^ k + from .held) (ap (field out (8 * (p / 8))) o ∙ field-zero out (8 * (p / 8))) in
-      field-put-yes out p k (from .held) (omega (arith, r .room))
-      ∙ ap (bitsPut out p k) (mod-eq-of-lt (r .held))
-      ∙ ap₂ (λ (i : ℕ) (n : ℕ). sets out i (bytesOf ((p % 8 + k + 7) / 8) (n * 2 ^ (8 * ((p % 8 + k + 7) / 8) - p % 8 - k)))) a e
-      ∙ ap (λ (x : ℕ). sets out (from .at) (bytesOf ((x + k + 7) / 8) ((0 * 2 ^ k + from .held) * 2 ^ (8 * ((x + k + 7) / 8) - x - k)))) o
-      ∙ ap₂ (λ (n x : ℕ). sets out (from .at) (bytesOf n ((0 * 2 ^ k + from .held) * 2 ^ x))) t u
+pub finish-is : (out : List ℕ) (from : BitWriter) → Ready out from [] → fieldPut out (8 * from .at) (from .bits) (from .held % 2 ^ 32) ≡ outcome out from []
+unfolding bits number packed bitsPut
+finish-is out from r =
+    let p : ℕ = 8 * from .at in
+    let k : ℕ = from .bits in
+    let x : ℕ = waiting from in
+    let a : p / 8 ≡ from .at = omega arith in
+    let o : p % 8 ≡ 0 = omega arith in
+    let t : (0 + k + 7) / 8 ≡ (k + 0 + 7) / 8 = omega arith in
+    let u : 8 * ((0 + k + 7) / 8) - 0 - k ≡ spare (k + 0) = omega arith in
+    let y : 32 - k + k ≡ 32 = omega (arith, r .few) in
+    let m : from .held % 2 ^ 32 % 2 ^ k ≡ waiting from = ap (λ (n : ℕ). from .held % 2 ^ n % 2 ^ k) (sym y) ∙ mod-mod-pow (from .held) (32 - k) k in
+    let e : (field out (8 * (p / 8)) (p % 8) * 2 ^ k + x) ≡ 0 * 2 ^ k + x = ap (λ (n : ℕ). n * 2 ^ k + x) (ap (field out (8 * (p / 8))) o ∙ field-zero out (8 * (p / 8))) in
+    field-put-yes out p k (from .held % 2 ^ 32) (omega (arith, r .room))
+    ∙ ap (bitsPut out p k) m
+    ∙ ap₂ (λ (i : ℕ) (n : ℕ). sets out i (bytesOf ((p % 8 + k + 7) / 8) (n * 2 ^ (8 * ((p % 8 + k + 7) / 8) - p % 8 - k)))) a e
+    ∙ ap (λ (n : ℕ). sets out (from .at) (bytesOf ((n + k + 7) / 8) ((0 * 2 ^ k + x) * 2 ^ (8 * ((n + k + 7) / 8) - n - k)))) o
+    ∙ ap₂ (λ (n i : ℕ). sets out (from .at) (bytesOf n ((0 * 2 ^ k + x) * 2 ^ i))) t u

@@ -18,21 +18,23 @@ use Rattle.payload.specs.declared.mesh.judge.Judged.the-variants as J
 
 -- ---- bits on their way into a buffer
 
--- the bits that wait are as many as the writer says and fewer than 32; the fields fit, and there is room for them
+-- the bits that wait, as a number: the low ones of what is held
+abbrev pub waiting : BitWriter → ℕ
+waiting from = from .held % 2 ^ from .bits
+
+-- fewer than 32 bits wait; the fields fit, and there is room for them
 pub record Ready (out : List ℕ) (from : BitWriter) (l : List Field) : Type 0 where
   pub few : from .bits < 32
-  pub held : from .held < 2 ^ from .bits
   pub fits : Fits l
   pub room : 8 * from .at + from .bits + bits l ≤ 8 * length out
 
 -- the buffer in the end, once the fields l are written after those that wait
 abbrev pub outcome : List ℕ → BitWriter → List Field → List ℕ
-outcome out from l = sets out (from .at) (packed ((from .bits, from .held) ∷ l))
+outcome out from l = sets out (from .at) (packed ((from .bits, waiting from) ∷ l))
 
 -- to write l from `from` on into `out` comes to the same as to write l′ from `to` on into `out′`, whatever follows
 pub record Advances (out : List ℕ) (from : BitWriter) (l : List Field) (out′ : List ℕ) (to : BitWriter) (l′ : List Field) : Type 0 where
   pub few : to .bits < 32
-  pub held : to .held < 2 ^ to .bits
   pub place : 8 * to .at + to .bits + bits l′ ≡ 8 * from .at + from .bits + bits l
   pub long : length out′ ≡ length out
   pub same : (rest : List Field) → Fits rest → outcome out′ to (l′ ++ rest) ≡ outcome out from (l ++ rest)

@@ -46,7 +46,7 @@ pub fn run(options: &Options) -> Vec<Tally> {
     vec![tally, beyond, writes]
 }
 
-fn payload(layout: u32, padding: u32) -> [u8; LENGTH] {
+pub fn payload(layout: u32, padding: u32) -> [u8; LENGTH] {
     let mut bytes = [0; LENGTH];
     bytes[4..8].copy_from_slice(&layout.to_be_bytes());
     bytes[8..].copy_from_slice(&padding.to_be_bytes());
@@ -89,7 +89,7 @@ fn lengths(tally: &mut Tally, beyond: &mut Tally, random: &mut Random) {
 }
 
 /// What the Rust's `None` stands for: a field that is not whole comes before what is in it.
-fn refusal(payload: &[u8]) -> i64 {
+pub fn refusal(payload: &[u8]) -> i64 {
     match payload.first() {
         None => SHORT,
         Some(&version) if version != 0 => VERSION,
@@ -100,7 +100,7 @@ fn refusal(payload: &[u8]) -> i64 {
     }
 }
 
-fn padding(payload: &[u8]) -> Option<u32> {
+pub fn padding(payload: &[u8]) -> Option<u32> {
     match mesh::parse_cbmp(payload)? {
         Spherical::Cubemap { layout: 0, padding } => Some(padding),
         _ => None,

@@ -10,7 +10,7 @@ use crate::tally::Tally;
 
 const NAME: &str = "cube";
 const CELLS: i64 = 9;
-const NUMBERS: i64 = 11;
+pub const NUMBERS: i64 = 11;
 const MOST_CELLS: u32 = 103;
 /// From here on the Rust's counts wrap.
 const WRAPS: u32 = 715_827_883;
@@ -130,7 +130,7 @@ fn random_meshes(tally: &mut Tally, random: &mut Random) {
     }
 }
 
-fn cells_usable(cells: u32) -> bool {
+pub fn cells_usable(cells: u32) -> bool {
     (1..=MOST_CELLS).contains(&cells)
 }
 

@@ -13,7 +13,7 @@ use crate::tally::Tally;
 const NAME: &str = "equi";
 const SHORT: i64 = 3;
 const VERSION: i64 = 4;
-const CROP: i64 = 10;
+pub const CROP: i64 = 10;
 const LENGTH: usize = 20;
 const RANDOM: u32 = 1_000_000;
 const WRITTEN: u32 = 200_000;
@@ -21,7 +21,7 @@ const WRITTEN: u32 = 200_000;
 const LENT: [usize; 5] = [0, 19, 20, 21, 40];
 
 /// t, b, l, r.
-type Fields = [u32; 4];
+pub type Fields = [u32; 4];
 
 pub fn run(options: &Options) -> Vec<Tally> {
     let what = "against mesh::parse_equi, with the number of its refusal";
@@ -47,7 +47,7 @@ pub fn run(options: &Options) -> Vec<Tally> {
     vec![tally, beyond, writes]
 }
 
-fn payload(fields: Fields) -> [u8; LENGTH] {
+pub fn payload(fields: Fields) -> [u8; LENGTH] {
     let mut bytes = [0; LENGTH];
     for (place, field) in bytes[4..].chunks_exact_mut(4).zip(fields) {
         place.copy_from_slice(&field.to_be_bytes());
@@ -104,7 +104,7 @@ fn lengths(tally: &mut Tally, beyond: &mut Tally, random: &mut Random) {
 }
 
 /// Any fields, or two opposite ones whose sum is close to 2^32, beside two others.
-fn random_fields(random: &mut Random) -> Fields {
+pub fn random_fields(random: &mut Random) -> Fields {
     let x = random.word();
     let y = (random.below(1200) as u32)
         .wrapping_sub(600)
@@ -119,7 +119,7 @@ fn random_fields(random: &mut Random) -> Fields {
 }
 
 /// What the Rust's `None` stands for.
-fn refusal(payload: &[u8]) -> i64 {
+pub fn refusal(payload: &[u8]) -> i64 {
     match payload.first() {
         None => SHORT,
         Some(&version) if version != 0 => VERSION,

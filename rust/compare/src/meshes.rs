@@ -25,7 +25,7 @@ pub const LONGER: usize = 5;
 const COPIES: usize = 3;
 const MANY_MESHES: usize = 1000;
 
-type Due = Result<Drawing, i64>;
+pub type Due = Result<Drawing, i64>;
 
 struct Lists {
     random: Random,
@@ -160,7 +160,7 @@ impl Lists {
 }
 
 /// The Rust's answer, with the number of the refusal and the coordinate numbers of the model.
-fn rust(payload: &[u8], model: &Due) -> Due {
+pub fn rust(payload: &[u8], model: &Due) -> Due {
     let (numbers, refusal) = match model {
         Ok(drawing) => (drawing.numbers.clone(), 0),
         Err(refusal) => (Vec::new(), *refusal),

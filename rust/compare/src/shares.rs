@@ -7,7 +7,7 @@ use crate::tally::Tally;
 
 const NAME: &str = "padding_share";
 pub const MOST_PADDING: u32 = 4096;
-const MOST_FACE: u32 = 16_384;
+pub const MOST_FACE: u32 = 16_384;
 const RANDOM: u32 = 1_000_000;
 
 pub fn run(options: &Options) -> Vec<Tally> {

@@ -12,7 +12,7 @@ use crate::run_on::boundaries;
 use crate::tally::Tally;
 
 const NAME: &str = "sphere";
-const GRID: i64 = 9;
+pub const GRID: i64 = 9;
 const CROP: i64 = 10;
 const MOST_VERTICES: u64 = 65_536;
 /// How far from the most vertices a grid still is close to them.
@@ -250,7 +250,7 @@ impl Sphere {
     }
 }
 
-fn grid_usable(rings: u32, sectors: u32) -> bool {
+pub fn grid_usable(rings: u32, sectors: u32) -> bool {
     let vertices = (u128::from(rings) + 1) * (u128::from(sectors) + 1);
     rings >= 2 && sectors >= 3 && vertices <= u128::from(MOST_VERTICES)
 }
@@ -275,7 +275,7 @@ fn due(made: Option<usize>, rings: u32, sectors: u32, crop: Crop) -> Answer {
 }
 
 /// The bits of u and v of each vertex that the Rust makes.
-fn uvs_of(rings: u32, sectors: u32, crop: Crop) -> Option<Vec<u32>> {
+pub fn uvs_of(rings: u32, sectors: u32, crop: Crop) -> Option<Vec<u32>> {
     let vertices = match grid_usable(rings, sectors) {
         true => pano::vertex_count(rings, sectors),
         false => 0,

@@ -20,6 +20,7 @@ pub struct Table<'a, T> {
     list: &'a [T],
     items: Vec<T>,
     lent: usize,
+    same: fn(T, T) -> bool,
 }
 
 impl<'a, T: Item> Table<'a, T> {
@@ -29,6 +30,15 @@ impl<'a, T: Item> Table<'a, T> {
             list,
             items: before(lent + BEYOND),
             lent,
+            same: |ours, due| ours == due,
+        }
+    }
+
+    /// Floats that arithmetic makes: of a NaN only that it is one.
+    pub fn made(name: &'static str, list: &'a [T], lent: usize) -> Table<'a, T> {
+        Table {
+            same: T::same,
+            ..Table::new(name, list, lent)
         }
     }
 
@@ -38,14 +48,18 @@ impl<'a, T: Item> Table<'a, T> {
 }
 
 pub trait Buffer {
-    /// The first item that is not as due. Unlike those of `fill`, all bits count.
+    /// The first item that is not as due.
     fn wrong(&self) -> Option<String>;
 }
 
 impl<T: Item> Buffer for Table<'_, T> {
     fn wrong(&self) -> Option<String> {
         let Table {
-            name, list, items, ..
+            name,
+            list,
+            items,
+            same,
+            ..
         } = self;
         let equal = if items.starts_with(list) {
             list.len()
@@ -53,7 +67,7 @@ impl<T: Item> Buffer for Table<'_, T> {
             0
         };
         let due = |place: usize| list.get(place).copied().unwrap_or(T::before(place));
-        let place = (equal..items.len()).find(|&place| items[place] != due(place))?;
+        let place = (equal..items.len()).find(|&place| !same(items[place], due(place)))?;
         let (ours, due) = (items[place], due(place));
         Some(format!("{name} {place} is {ours:x} for {due:x}"))
     }

@@ -232,4 +232,22 @@ extern "C" {
         words: *mut u64,
         words_len: usize,
     ) -> i64;
+    pub fn probe_scene(
+        kind: u32,
+        payload: *const u8,
+        payload_len: usize,
+        rings: u32,
+        sectors: u32,
+        cells: u32,
+        radius: f32,
+        face_width: u32,
+        numbers: *mut u16,
+        numbers_len: usize,
+        floats: *mut u32,
+        floats_len: usize,
+        records: *mut u32,
+        records_len: usize,
+        words: *mut u64,
+        words_len: usize,
+    ) -> i64;
 }

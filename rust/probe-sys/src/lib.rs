@@ -4,14 +4,16 @@
 //! `words[0]` on, or nothing where `words` is shorter; or `-k` for refusal k, which stores nothing;
 //! or [`NEEDS`] with the needed lengths from `words[0]` on; or [`NOT_MADE`] for a width above 32.
 //!
-//! SAFETY, for every call here, in `mesh` and in `payload`: each pointer comes with the length of the slice it was taken from.
+//! SAFETY, for every call here, in `mesh`, in `payload` and in `scene`: each pointer comes with the length of the slice it was taken from.
 
 mod ffi;
 mod mesh;
 mod payload;
+mod scene;
 
 pub use mesh::*;
 pub use payload::*;
+pub use scene::*;
 
 pub const NEEDS: i64 = -12;
 pub const NOT_MADE: i64 = i64::MIN;

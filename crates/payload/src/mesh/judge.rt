@@ -12,18 +12,17 @@ pub enum Judged {
     NoMesh,
 }
 
-// Every number is below limit.
-fn all_below(ns: &[u16], limit: usize) -> bool
+// Every number is below limit. All of them are looked at, since a loop without a way out takes many at a time.
+fn all_below(ns: &[u16], limit: u16) -> bool
     ensures { λ r. ⌜ r ≡ allBelow limit (now (ns .entry)) ⌝ }
 {
+    let mut above = false;
     let mut i = 0;
     while i < ns.len() {
-        if limit <= ns[i] as usize {
-            return false;
-        }
+        above = above | (limit <= ns[i]);
         i += 1;
     }
-    true
+    !above
 }
 
 // A row of the submesh table is within the limits, and its points are no more than are left.
@@ -113,10 +112,10 @@ pub fn judge(pool: &[u32], coordinates: &[u16], rows: &[u32], points: &[u16]) ->
     if 67_108_864 < size {
         return Judged::NoMesh;
     }
-    if !all_below(coordinates, n) {
+    if !all_below(coordinates, n as u16) {
         return Judged::NoMesh;
     }
-    if !all_below(points, v / 5) {
+    if !all_below(points, (v / 5) as u16) {
         return Judged::NoMesh;
     }
     Judged::Size(size)

@@ -1,11 +1,7 @@
--- `joined` meets its contract. Assumes nothing.
-use mathlib.Core.Path.{ap}
-use Prim.Native.Nat.{ℕ, _+_, _-_}
-use native.Mathlib.Omega.{arith}
-use native.Mathlib.Nat.{lt-of-lt-of-le}
-use lib.Pow.{pow-mono, shl-exact}
+-- `joined` meets its contract: what is lost above was out already. Assumes nothing.
+use Prim.Native.Nat.{_-_}
 use borrow.Author.Needs.{needs}
-use Rattle.bits.proofs.PutLaws.{cat-lt}
+use Rattle.payload.proofs.WriterLaws.{joined-fits, joined-is}
 use Rattle.payload.proofs.mesh.bit_writer.joined.Statement.{statement}
 use Rattle.payload.proofs.mesh.bit_writer.joined.Tie as tie
 
@@ -13,12 +9,10 @@ shl-result : tie.Need-shl-result
 shl-result c = search needs
 
 add-result : tie.Need-add-result
-add-result c =
-    let a = c .args in
-    record { fits = rw (shl-exact (a .bits) (a .width) 64 (c .pre .2) (omega arith)) (lt-of-lt-of-le (cat-lt (a .bits) (a .width) (c .pre .2) (c .pre .3)) (pow-mono {j = 64} (omega arith))) }
+add-result c = let a = c .args in record { fits = joined-fits (a .held) (a .width) (a .value) (c .pre .1) (c .pre .2) }
 
 returns : tie.Need-returns
-returns c = let a = c .args in ap (λ (x : ℕ). x + a .value) (shl-exact (a .bits) (a .width) 64 (c .pre .2) (omega arith))
+returns c = let a = c .args in joined-is (a .held) (a .bits) (a .width) (a .value) (c .pre .0) (c .pre .1) (c .pre .2)
 
 pub joined-spec : {M : Type 1} → statement M
 joined-spec = tie.close (tie.spec shl-result add-result returns)

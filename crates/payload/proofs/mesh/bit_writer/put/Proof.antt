@@ -1,10 +1,9 @@
 -- `put` meets its contract: the field waits, or four bytes go out. Assumes nothing.
-use mathlib.Core.Path.{refl, ap}
-use Prim.Native.Nat.{ℕ, _+_, _-_, _%_}
+use mathlib.Core.Path.{refl}
+use Prim.Native.Nat.{_+_, _-_}
 use native.Mathlib.Omega.{arith}
-use lib.Pow.{pow-pos}
 use borrow.Author.Needs.{needs}
-use Rattle.payload.proofs.WriterLaws.{high-fits, power-is, put-goes, put-waits, word-lt}
+use Rattle.payload.proofs.WriterLaws.{put-goes, put-room, put-waits}
 use Rattle.payload.proofs.mesh.bit_writer.put.Statement.{statement}
 use Rattle.payload.proofs.mesh.bit_writer.put.Tie as tie
 
@@ -17,31 +16,21 @@ joined-requires c κs = search needs
 returns : tie.Need-returns
 returns c =
     let s = c .before .before .before in
-    put-waits (s .args .out .now) (s .args .from) (s .args .width) (s .args .value) (s .pre .0) _ refl (c .before .joined .ensures) refl (c .if1 .taken)
+    put-waits (s .args .out .now) (s .args .from) (s .args .width) (s .args .value) (s .pre .0) _ refl refl (c .before .joined .ensures) (c .if1 .taken)
 
-shr-put-word : tie.Need-shr-put-word
-shr-put-word c = search needs
+shr-put-four : tie.Need-shr-put-four
+shr-put-four c = search needs
 
-cast-put-word : tie.Need-cast-put-word
-cast-put-word c =
+cast-put-four : tie.Need-cast-put-four
+cast-put-four c = search needs
+
+put-four-requires : tie.Need-put-four-requires
+put-four-requires c κs =
     let s = c .before .before .before .before in
-    let a = s .args in
-    record { fits = high-fits (c .before .before .joined .result) (a .from .bits) (a .width) (a .from .bits + a .width - 32) (rw (c .before .before .joined .ensures) (word-lt (a .out .now) (a .from) (a .width) (a .value) (s .pre .0))) (omega arith) }
+    put-room (s .args .out .now) (s .args .from) (s .args .width) (s .args .value) (s .pre .0) (omega (arith, c .before .if1 .left))
 
-put-word-requires : tie.Need-put-word-requires
-put-word-requires c κs = search needs
-
-add-t17 : tie.Need-add-t17
-add-t17 c = search needs
-
-shl-t15 : tie.Need-shl-t15
-shl-t15 c = search needs
-
-rem-t18 : tie.Need-rem-t18
-rem-t18 c =
-    let s = c .before .before .before .before .before .before .before in
-    let k = s .args .from .bits + s .args .width - 32 in
-    rw (power-is k (omega (arith, s .pre .0 .few, s .pre .1))) (pow-pos k)
+add-t18 : tie.Need-add-t18
+add-t18 c = search needs
 
 same-length : tie.Need-same-length
 same-length c = search needs
@@ -49,11 +38,7 @@ same-length c = search needs
 returns-2 : tie.Need-returns-2
 returns-2 c =
     let s = c .before .before .before .before .before .before .before in
-    let a = s .args in
-    let k = a .from .bits + a .width - 32 in
-    let w = c .before .before .before .before .before .joined .result in
-    put-goes (a .out .now) (a .from) (a .width) (a .value) (s .pre .0) _ _ w k (c .before .before .before .before .before .joined .ensures) (omega (arith, c .before .before .before .before .if1 .left)) (s .pre .1)
-    (c .before .before .put-word .ensures .1) refl (ap (λ (x : ℕ). w % x) (power-is k (omega (arith, s .pre .0 .few, s .pre .1)))) refl
+    put-goes (s .args .out .now) (s .args .from) (s .args .width) (s .args .value) (s .pre .0) _ _ (s .args .from .bits + s .args .width - 32) (omega (arith, c .before .before .before .before .if1 .left)) (s .pre .1) (c .before .before .before .before .before .joined .ensures) (c .before .before .put-four .ensures) refl refl
 
 pub put-spec : {M : Type 1} → statement M
 put-spec =
@@ -62,11 +47,9 @@ put-spec =
     add-all
     joined-requires
     returns
-    shr-put-word
-    cast-put-word
-    put-word-requires
-    add-t17
-    shl-t15
-    rem-t18
+    shr-put-four
+    cast-put-four
+    put-four-requires
+    add-t18
     same-length
     returns-2)

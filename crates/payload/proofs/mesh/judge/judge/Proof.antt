@@ -45,6 +45,9 @@ returns-4 c =
     let a = c .before .before .before .before .before .before .before .before .before .before .before .before .args in
     judged-not (a .pool .now) (a .coordinates .now) (a .rows .now) (a .points .now) (size-no (a .pool .now) (a .coordinates .now) (a .rows .now) (a .points .now) _ (sym (c .before .before .before .before .before .rows-fit .ensures) ∙ not-false _ (c .before .before .before .before .if2 .left)) (c .before .box-size .ensures) (c .if4 .taken))
 
+cast-all-below : tie.Need-cast-all-below
+cast-all-below c = record { fits = omega (arith, counts-told _ _ _ (sym (c .before .before .before .before .before .before .before .counts-fit .ensures) ∙ not-false _ (c .before .before .before .before .before .before .if1 .left)) .pool-most) }
+
 all-below-requires : tie.Need-all-below-requires
 all-below-requires c κs = search needs
 
@@ -52,6 +55,9 @@ returns-5 : tie.Need-returns-5
 returns-5 c =
     let a = c .before .before .before .before .before .before .before .before .before .before .before .before .before .before .args in
     judged-not (a .pool .now) (a .coordinates .now) (a .rows .now) (a .points .now) (coordinates-no (a .pool .now) (a .coordinates .now) (a .rows .now) (a .points .now) (sym (c .before .all-below .ensures) ∙ not-true _ (c .if5 .taken)))
+
+cast-all-below-2 : tie.Need-cast-all-below-2
+cast-all-below-2 c = record { fits = omega (arith, counts-told _ _ _ (sym (c .before .before .before .before .before .before .before .before .before .counts-fit .ensures) ∙ not-false _ (c .before .before .before .before .before .before .before .before .if1 .left)) .vertex-most) }
 
 all-below-requires-2 : tie.Need-all-below-requires-2
 all-below-requires-2 c κs = search needs
@@ -79,8 +85,10 @@ judge-spec =
     returns-3
     box-size-requires
     returns-4
+    cast-all-below
     all-below-requires
     returns-5
+    cast-all-below-2
     all-below-requires-2
     returns-6
     returns-7)
