@@ -56,14 +56,76 @@ impl Calls {
         }
     }
 
-    /// One call on buffers of these lengths.
-    pub fn on(&mut self, call: Call, due: &Due, lent: [usize; 3]) {
-        let (answer, [numbers, floats, records]) = match due {
-            Err(refusal) => (Answer::refused(*refusal), Lists::default()),
+    /// One call on buffers of these lengths. A refusal leaves all three as they were.
+    fn on(&mut self, call: Call, due: &Due, lent: [usize; 3]) {
+        let (answer, drawn) = match due {
+            Err(refusal) => (Answer::refused(*refusal), None),
             Ok(scene) if !fits(scene.lengths(), lent) => {
-                (Answer::needs_each(&scene.lengths()), Lists::default())
+                (Answer::needs_each(&scene.lengths()), None)
             }
-            Ok(scene) => todo!(),
+            Ok(scene) => (Answer::words(&scene.words()), Some(scene)),
         };
+        let floats = drawn.map_or(&[][..], |scene| &scene.floats);
+        let mut numbers = Table::new(
+            "number",
+            drawn.map_or(&[][..], |scene| &scene.numbers),
+            lent[0],
+        );
+        let mut floats = match call.kind {
+            2 => Table::new("float", floats, lent[1]),
+            _ => Table::made("float", floats, lent[1]),
+        };
+        let mut records = Table::new(
+            "record word",
+            drawn.map_or(&[][..], |scene| &scene.records),
+            lent[2],
+        );
+        let replies = self.tally.ask(&answer, |words| {
+            probe_sys::scene(
+                call.kind,
+                call.payload,
+                call.given,
+                numbers.lent(),
+                floats.lent(),
+                records.lent(),
+                words,
+            )
+        });
+        let buffers: [&dyn tables::Buffer; 3] = [&numbers, &floats, &records];
+        tables::check(&mut self.tally, replies, &buffers, || {
+            (call.kind, numbers_of(call), lent, shown(call.payload))
+        });
     }
+}
+
+/// Rings, sectors, cells, the bits of the radius, F.
+fn numbers_of(call: Call) -> [u32; 5] {
+    let given = call.given;
+    [
+        given.rings,
+        given.sectors,
+        given.cells,
+        given.radius.to_bits(),
+        given.face_width,
+    ]
+}
+
+fn every_length(random: &mut Random, needed: [usize; 3]) -> Vec<[usize; 3]> {
+    let choices = needed.map(|n| choices(random, n));
+    let mut lent = Vec::new();
+    for &numbers in &choices[0] {
+        for &floats in &choices[1] {
+            lent.extend(choices[2].iter().map(|&records| [numbers, floats, records]));
+        }
+    }
+    lent
+}
+
+fn choices(random: &mut Random, needed: usize) -> Vec<usize> {
+    if needed == 0 {
+        return vec![0, random.pick(&UNUSED)];
+    }
+    let mut choices = vec![0, needed - 1, needed, needed + 1 + random.below(40)];
+    choices.dedup();
+    choices
 }
