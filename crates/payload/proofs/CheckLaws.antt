@@ -3,7 +3,7 @@ use Prim.Native.Nat.{ℕ, zero, suc, _+_, _-_, _*_, _/_, _≤_, _<_}
 use mathlib.Core.Path.{_≡_, refl, sym, ap, _∙_}
 use mathlib.Core.List.{List, [], _∷_, _++_}
 use native.Mathlib.Omega.{arith}
-use native.Mathlib.Nat.{mul-le-mul-left}
+use native.Mathlib.Nat.{mul-le-mul-left, add-mul}
 use lib.ListN.{length}
 use Rattle.bits.specs.Verdict.{Verdict, accepted, needs, declined, andThen, mapped}
 use Rattle.bits.specs.Field.{field}
@@ -53,6 +53,13 @@ module _ (s : List ℕ) (w limit : ℕ) where
 -- a run that is spelled ends within the bytes
 pub run-fits : {s : List ℕ} {w limit p : ℕ} {prior ns : List ℕ} (n : ℕ) → RunSpells s w limit p prior ns → length ns ≡ n → 1 ≤ n → p + n * w ≤ 8 * length s
 run-fits n r e o = let z : n - 1 + 1 ≡ n = omega arith in rw z at (r .whole (n - 1) (omega arith))
+
+-- the next g of n fields of w bits lie within the bytes where all do, and so do those after them
+pub group-fits : (g n w p e : ℕ) → g ≤ n → p + n * w ≤ e → (p + g * w ≤ e) × (p + g * w + (n - g) * w ≤ e)
+group-fits g n w p e l h =
+    let z : n ≡ g + (n - g) = omega arith in
+    let y : n * w ≡ g * w + (n - g) * w = ap (λ (k : ℕ). k * w) z ∙ add-mul g (n - g) w in
+    (omega arith, omega arith)
 
 -- ---- three fields, of one running number
 

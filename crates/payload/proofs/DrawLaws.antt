@@ -198,7 +198,7 @@ submesh-drawn f base s w m left bit k x d d′ o t e =
 
 -- ---- two ways to the words of points agree where the coordinates agree
 
-point-agrees : (f g : ℕ → ℕ) (a b : ℕ) → ((k : ℕ) → k < 5 → f (a + k) ≡ g (b + k)) → pointWords f a ≡ pointWords g b
+pub point-agrees : (f g : ℕ → ℕ) (a b : ℕ) → ((k : ℕ) → k < 5 → f (a + k) ≡ g (b + k)) → pointWords f a ≡ pointWords g b
 point-agrees f g a b h =
     let z : a + 0 ≡ a = omega arith in
     let y : b + 0 ≡ b = omega arith in
@@ -210,7 +210,7 @@ point-agrees f g a b h =
     λ i. e₀ i ∷ e₁ i ∷ e₂ i ∷ e₃ i ∷ e₄ i ∷ []
 
 module _ (f g : ℕ → ℕ) (a b m : ℕ) (h : (k : ℕ) → k < 5 * m → f (a + k) ≡ g (b + k)) where
-  run-agrees : (l : List ℕ) → ((i : ℕ) → i < length l → getD l i 0 < m) → runWords f a l ≡ runWords g b l
+  pub run-agrees : (l : List ℕ) → ((i : ℕ) → i < length l → getD l i 0 < m) → runWords f a l ≡ runWords g b l
   unfolding runWords
   run-agrees [] u = refl
   run-agrees (v ∷ l) u =

@@ -22,6 +22,7 @@ pub mod MeshProofs
 pub mod CheckLaws
 pub mod MeasureLaws
 pub mod DrawLaws
+pub mod StockLaws
 pub mod RecordLaws
 pub mod TableLaws
 pub mod SettledLaws

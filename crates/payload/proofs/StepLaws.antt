@@ -9,9 +9,11 @@ use Rattle.bits.specs.Verdict.{Verdict, accepted, needs, declined}
 use Rattle.bits.specs.Field.{field}
 use Rattle.bits.specs.Number.{steppedTo}
 use Rattle.payload.specs.Run.{Found, shift, nextOf, before, readRun}
-use Rattle.payload.specs.Internal.{queue, queueNext, AllBelow, Stepped5, WasRead, runNumbers}
+use Rattle.payload.specs.Internal.{queue, queueNext, AllBelow, SteppedBy, Stepped5, WasRead, runNumbers}
 use Rattle.payload.specs.declared.mesh.Five.{Five}
 use Rattle.payload.specs.declared.mesh.FiveNext.{FiveNext}
+use Rattle.payload.specs.declared.mesh.Three.{Three}
+use Rattle.payload.specs.declared.mesh.Two.{Two}
 use Rattle.payload.proofs.RunLaws.{run-short, run-out, run-on}
 
 -- what was declined was not read
@@ -83,6 +85,20 @@ reached s w limit g n p prior o l m =
 -- the same step by an equal field
 pub stepped-at : (last f g r : ℕ) → f ≡ g → r ≡ steppedTo last f → r ≡ steppedTo last g
 stepped-at last f g r e d = d ∙ ap (λ (k : ℕ). steppedTo last k) e
+
+-- five steps by the fields of two windows
+pub steps : (s : List ℕ) (w p : ℕ) (v : Five) (f : Three) (g : Two) (r : FiveNext)
+    → (f .a ≡ field s p w) × (f .b ≡ field s (p + w) w) × (f .c ≡ field s (p + w + w) w)
+    → (g .a ≡ field s (p + 3 * w) w) × (g .b ≡ field s (p + 3 * w + w) w) → SteppedBy v f g r → Stepped5 s w p v r
+steps s w p v f g r ef eg k =
+    let x : p + 3 * w ≡ p + w + w + w = omega arith in
+    record {
+      first = stepped-at (v .a) _ _ _ (ef .0) (k .first);
+      second = stepped-at (v .b) _ _ _ (ef .1) (k .second);
+      third = stepped-at (v .c) _ _ _ (ef .2) (k .third);
+      fourth = stepped-at (v .d) _ _ _ (rw x at (eg .0)) (k .fourth);
+      fifth = stepped-at (v .e) _ _ _ (rw x at (eg .1)) (k .fifth);
+    }
 
 -- one field, of the running number x
 pub got : (s : List ℕ) (w limit n p x : ℕ) (l : List ℕ) (r : ℕ) → 0 < n → WasRead (readRun s w limit n p (x ∷ l)) → r ≡ steppedTo x (field s p w)

@@ -1,9 +1,10 @@
 -- A window is the bits before bit q of the bytes that end with it. One law makes it, and one takes a field out of it, whatever their sizes. Assumes nothing.
-use Prim.Native.Nat.{ℕ, _+_, _-_, _*_, _/_, _%_, _^_, _≤_}
+use Prim.Native.Nat.{ℕ, _+_, _-_, _*_, _/_, _%_, _^_, _≤_, _<_}
 use mathlib.Core.Path.{_≡_, sym, ap, ap₂, _∙_}
 use mathlib.Core.List.{List}
 use native.Mathlib.Omega.{arith}
-use lib.Pow.{high}
+use native.Mathlib.Nat.{mul-assoc, mul-add-div-right}
+use lib.Pow.{high, pow-add, pow-pos, shl-exact}
 use Rattle.bits.specs.Field.{field}
 use Rattle.bits.proofs.FieldLaws.{field-lt, field-split, field-window}
 
@@ -21,6 +22,15 @@ window-is s n e q k b x y h size l ex ey =
     ∙ field-split s o b k)
     ∙ high (field s o b) k (field-lt s (o + b) k)
     ∙ ap (λ (z : ℕ). field s z b) from
+
+-- a byte and a word, each shifted before they are joined
+pub parts-shifted : (x y k : ℕ) → k ≤ 32 → x < 256 → x * 2 ^ (32 - k) % 2 ^ 64 + y / 2 ^ k ≡ (x * 2 ^ 32 + y) / 2 ^ k
+parts-shifted x y k h l =
+    let e : 32 - k + k ≡ 32 = omega arith in
+    let z : x * 2 ^ (32 - k) * 2 ^ k ≡ x * 2 ^ 32 = mul-assoc x (2 ^ (32 - k)) (2 ^ k) ∙ ap (λ (p : ℕ). x * p) (sym (pow-add 2 (32 - k) k) ∙ ap (λ (j : ℕ). 2 ^ j) e) in
+    ap (λ (p : ℕ). p + y / 2 ^ k) (shl-exact 8 (32 - k) 64 l (omega arith))
+    ∙ sym (mul-add-div-right (pow-pos k) (x * 2 ^ (32 - k)) y)
+    ∙ ap (λ (p : ℕ). (p + y) / 2 ^ k) z
 
 -- the field of w bits from bit p on, which ends k bits before q, out of the b bits before q
 pub window-field : (s : List ℕ) (p w k q b x r : ℕ) → p + w + k ≡ q → b ≤ q → w + k ≤ b → x ≡ field s (q - b) b → r ≡ x / 2 ^ k % 2 ^ w → r ≡ field s p w

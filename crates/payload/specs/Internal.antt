@@ -1,5 +1,5 @@
 -- What the contracts of private functions of the mesh reader cite. No promise of a public call leans on these.
-use Prim.Native.Nat.{ℕ, _+_, _*_, _%_, _≤_, _<_}
+use Prim.Native.Nat.{ℕ, zero, suc, _+_, _*_, _%_, _≤_, _<_}
 use mathlib.Core.Bool.{cond}
 use lib.Dec.{eqb}
 use lib.ListN.{length, getD}
@@ -16,6 +16,8 @@ use Rattle.payload.specs.MeshDrawing.{pointCount, pointTotal, drawnNumbe
 use Rattle.payload.specs.declared.mesh.Five.{Five}
 use Rattle.payload.specs.declared.mesh.FiveNext.{FiveNext}
 use Rattle.payload.specs.declared.mesh.Head.{Head}
+use Rattle.payload.specs.declared.mesh.Three.{Three}
+use Rattle.payload.specs.declared.mesh.Two.{Two}
 use Rattle.payload.specs.declared.mesh.draw.Place.{Place}
 use Rattle.payload.specs.declared.mesh.draw.Record.{Record}
 use Rattle.payload.specs.declared.mesh.draw.RecordPlace.{RecordPlace}
@@ -47,6 +49,14 @@ queueNext v = v .a ∷ v .b ∷ v .c ∷ v .d ∷ v .e ∷ []
 
 abbrev pub AllBelow : ℕ → FiveNext → Type 0
 AllBelow limit v = (v .a < limit) × (v .b < limit) × (v .c < limit) × (v .d < limit) × (v .e < limit)
+
+-- the fields f and g take the numbers v to the numbers r
+pub record SteppedBy (v : Five) (f : Three) (g : Two) (r : FiveNext) : Type 0 where
+  pub first : r .a ≡ steppedTo (v .a) (f .a)
+  pub second : r .b ≡ steppedTo (v .b) (f .b)
+  pub third : r .c ≡ steppedTo (v .c) (f .c)
+  pub fourth : r .d ≡ steppedTo (v .d) (g .a)
+  pub fifth : r .e ≡ steppedTo (v .e) (g .b)
 
 -- the five fields from bit p on take the numbers v to the numbers r
 pub record Stepped5 (s : List ℕ) (w p : ℕ) (v : Five) (r : FiveNext) : Type 0 where
@@ -153,6 +163,24 @@ wordAt s numbers k = poolWord s (getD numbers k 0)
 pub record Pooled (s numbers : List ℕ) (k n : ℕ) : Type 0 where
   pub there : k + n ≤ length numbers
   pub inside : (i : ℕ) → k ≤ i → i < k + n → 32 * getD numbers i 0 + 64 ≤ 8 * length s
+
+-- the word at place k of a buffer
+abbrev pub wordIn : List ℕ → ℕ → ℕ
+wordIn words k = getD words k 0
+
+-- the words of n coordinates from k on
+unfoldable pub wordsFrom : (ℕ → ℕ) → ℕ → ℕ → List ℕ
+wordsFrom word k zero = []
+wordsFrom word k (suc n) = word k ∷ wordsFrom word (k + 1) n
+
+-- `words` has the words of the n coordinates from `base` on, from place `stock` on
+pub record Stocked (s numbers : List ℕ) (base n : ℕ) (words : List ℕ) (stock : ℕ) : Type 0 where
+  pub there : stock + n ≤ length words
+  pub same : (i : ℕ) → i < n → wordIn words (stock + i) ≡ wordAt s numbers (base + i)
+
+-- the stock is there as long as nothing was stored at it or after it
+abbrev pub StockedFrom : ℕ → List ℕ → List ℕ → ℕ → ℕ → List ℕ → ℕ → Type 0
+StockedFrom off s numbers base n words stock = off < stock → Stocked s numbers base n words stock
 
 -- the submeshes, the mesh of a body, the meshes of a box, and those from a byte on that were read; none where they were refused
 abbrev pub submeshesRead : Found (List Submesh) → List Submesh

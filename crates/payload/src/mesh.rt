@@ -9,7 +9,7 @@ ghost use lib.Seq.{sets};
 ghost use Rattle.bits.specs.Field.{field};
 ghost use Rattle.payload.specs.Run.{readRun, five};
 ghost use Rattle.payload.specs.MeshRead.{readMesh};
-ghost use Rattle.payload.specs.Internal.{wideBits, narrowBits, queue, queueNext, AllBelow, Stepped5, WasRead, runNumbers, HeadOf};
+ghost use Rattle.payload.specs.Internal.{wideBits, narrowBits, queue, queueNext, AllBelow, SteppedBy, WasRead, runNumbers, HeadOf};
 
 mod bit_writer;
 mod draw;
@@ -56,14 +56,15 @@ fn word(s: &[u8], i: usize) -> u32
     four(s[i], s[i + 1], s[i + 2], s[i + 3])
 }
 
-// The bits before bit q in the eight bytes that end with it: 57 of them or more.
+// The bits before bit q in the eight bytes that end with it: 57 of them or more. The bits after q are counted by `%`, since that is a mask.
 fn wide_window(s: &[u8], q: usize) -> u64
     requires { ⌜ (length (now s) ≤ 67108864) × (64 ≤ q) × (q ≤ 8 * length (now s)) ⌝ }
     ensures { λ r. ⌜ r ≡ field (now (s .entry)) (q - wideBits q) (wideBits q) ⌝ }
 {
-    let e = (q + 7) / 8;
+    let r = q + 7;
+    let e = r / 8;
     let x = (word(s, e - 8) as u64) * 0x1_0000_0000 + word(s, e - 4) as u64;
-    x >> (e * 8 - q)
+    x >> (7 - r % 8)
 }
 
 // A byte as a wider number.
@@ -73,14 +74,16 @@ fn wide(x: u8) -> u64
     x as u64
 }
 
-// The bits before bit q in the five bytes that end with it: 33 of them or more.
+// The bits before bit q in the five bytes that end with it: 33 of them or more. The word is shifted before the byte comes in front of it: so
+// it is still one load.
 fn narrow_window(s: &[u8], q: usize) -> u64
     requires { ⌜ (length (now s) ≤ 67108864) × (40 ≤ q) × (q ≤ 8 * length (now s)) ⌝ }
     ensures { λ r. ⌜ r ≡ field (now (s .entry)) (q - narrowBits q) (narrowBits q) ⌝ }
 {
-    let e = (q + 7) / 8;
-    let x = wide(s[e - 5]) * 0x1_0000_0000 + word(s, e - 4) as u64;
-    x >> (e * 8 - q)
+    let r = q + 7;
+    let e = r / 8;
+    let k = 7 - r % 8;
+    (wide(s[e - 5]) << (32 - k)) + (word(s, e - 4) as u64 >> k)
 }
 
 // The w bits of x above its lowest k.
@@ -111,9 +114,10 @@ fn three_fields(s: &[u8], p: usize, w: usize) -> Three
     ensures { λ r. ⌜ (r .a ≡ field (now (s .entry)) p w) × (r .b ≡ field (now (s .entry)) (p + w) w) × (r .c ≡ field (now (s .entry)) (p + w + w) w) ⌝ }
 {
     let x = wide_window(s, p + 3 * w);
+    let y = x >> w;
     Three {
-        a: bits_above(x, 2 * w, w),
-        b: bits_above(x, w, w),
+        a: bits_above(y, w, w),
+        b: bits_above(y, 0, w),
         c: bits_above(x, 0, w),
     }
 }
@@ -153,13 +157,10 @@ struct FiveNext {
     e: u64,
 }
 
-// Where the five fields from bit p on take five running numbers.
-fn step_five(s: &[u8], p: usize, w: usize, v: Five) -> FiveNext
-    requires { ⌜ (length (now s) ≤ 67108864) × (w ≤ 17) × (64 ≤ p) × (p + 5 * w ≤ 8 * length (now s)) ⌝ }
-    ensures { λ r. ⌜ Stepped5 (now (s .entry)) w p v r ⌝ }
+// Where five fields take five running numbers. Their windows are read by the callers, so that this is small enough to become part of each loop.
+fn step_five(v: Five, f: Three, g: Two) -> FiveNext
+    ensures { λ r. ⌜ SteppedBy v f g r ⌝ }
 {
-    let f = three_fields(s, p, w);
-    let g = two_fields(s, p + 3 * w, w);
     FiveNext {
         a: bits::stepped(v.a, f.a),
         b: bits::stepped(v.b, f.b),
@@ -212,7 +213,9 @@ fn fill_vertices(s: &[u8], p: usize, w: usize, limit: u32, count: u32, out: &mut
     let mut left = count;
     let mut place = at;
     while 0 < left {
-        v = kept(step_five(s, bit, w, v));
+        let f = three_fields(s, bit, w);
+        let g = two_fields(s, bit + 3 * w, w);
+        v = kept(step_five(v, f, g));
         put_five(out, place, v);
         place += 5;
         bit += 5 * w;

@@ -1,5 +1,7 @@
 // The filling pass over a mesh list that was measured: nothing is tested again, and nothing can fail. Vertices' coordinate numbers go to
 // `numbers` first; points read them back from there, and their words from the payload, so that no memory is needed beside the buffers.
+// A mesh with many points for its vertices has all its vertices' words stocked first where its last points will go; a point before the
+// stock is then one copy, not ten reads far apart.
 use super::CoordinateNumber;
 use super::MESH;
 use super::VertexNumber;
@@ -24,7 +26,7 @@ ghost use Rattle.payload.specs.Payload.{limited};
 ghost use Rattle.payload.specs.Run.{readRun, one};
 ghost use Rattle.payload.specs.MeshRead.{many, readSubmesh, readMesh, readMeshes};
 ghost use Rattle.payload.specs.MeshDrawing.{pointWords, runWords, submeshWords, submeshRecords, pointCount, recordsFrom, drawnNumbers, drawnFloats, drawnRecords};
-ghost use Rattle.payload.specs.Internal.{WasRead, runNumbers, poolWord, wordAt, Pooled, submeshesRead, meshRead, boxMeshes, boxRead, meshesFrom, FillRoom, afterMeshes, recordWords, RecordRoom, afterRecords};
+ghost use Rattle.payload.specs.Internal.{WasRead, runNumbers, poolWord, wordAt, wordIn, wordsFrom, Pooled, StockedFrom, submeshesRead, meshRead, boxMeshes, boxRead, meshesFrom, FillRoom, afterMeshes, recordWords, RecordRoom, afterRecords};
 ghost use Rattle.payload.specs.Fill.{front};
 ghost use Rattle.payload.specs.Meshes.{drawnInto, meshesSays, meshesAnswer, recordsSays, recordsAnswer};
 
@@ -113,24 +115,26 @@ fn draw_three(
     draw_point(s, numbers, base, c, words, off + 10);
 }
 
-// Stores the words of a run of points that is known to be read whole. The m vertices' coordinate numbers stand in numbers from base on.
+// Stores the words of a run of points that is known to be read whole, from any running number on. The m vertices' coordinate numbers stand
+// in numbers from base on.
 fn draw_run(
     s: &[u8],
     p: usize,
     w: usize,
     m: u32,
     count: u32,
+    from: VertexNumber,
     numbers: &[u16],
     base: usize,
     words: &mut [u32],
     off: usize,
 )
     requires { ⌜ (length (now s) ≤ 67108864) × (w ≤ 17) × (m ≤ 65536) × (64 ≤ p) × (off + 5 * count ≤ length (now words)) × Pooled (now s) (now numbers) base (5 * m) ⌝ }
-    requires { ⌜ WasRead (readRun (now s) w m count p one) ⌝ }
-    ensures { λ _. ⌜ now (words .exit) ≡ sets (now (words .entry)) off (runWords (wordAt (now (s .entry)) (now (numbers .entry))) base (runNumbers (readRun (now (s .entry)) w m count p one))) ⌝ }
+    requires { ⌜ WasRead (readRun (now s) w m count p (from .0 ∷ [])) ⌝ }
+    ensures { λ _. ⌜ now (words .exit) ≡ sets (now (words .entry)) off (runWords (wordAt (now (s .entry)) (now (numbers .entry))) base (runNumbers (readRun (now (s .entry)) w m count p (from .0 ∷ [])))) ⌝ }
 {
     let mut bit = p;
-    let mut last: u16 = 0;
+    let mut last = from.0;
     let mut left = count;
     let mut o = off;
     while 3 <= left {
@@ -166,8 +170,176 @@ fn draw_run(
     );
 }
 
-// Stores the words of some submeshes that are known to be read whole, and returns the place after them.
+// Copies the five words of a vertex to a place before them.
+fn copy_point(words: &mut [u32], from: usize, off: usize)
+    requires { ⌜ (off + 5 ≤ from) × (from + 5 ≤ length (now words)) ⌝ }
+    ensures { λ _. ⌜ now (words .exit) ≡ sets (now (words .entry)) off (pointWords (wordIn (now (words .entry))) from) ⌝ }
+{
+    let a = words[from];
+    let b = words[from + 1];
+    let c = words[from + 2];
+    let d = words[from + 3];
+    let e = words[from + 4];
+    words[off] = a;
+    words[off + 1] = b;
+    words[off + 2] = c;
+    words[off + 3] = d;
+    words[off + 4] = e;
+}
+
+// Copies the words of three vertices, which stand in words from stock on, to a place before all vertices' words.
+fn copy_three(
+    words: &mut [u32],
+    stock: usize,
+    a: VertexNumber,
+    b: VertexNumber,
+    c: VertexNumber,
+    off: usize,
+)
+    requires { ⌜ (off + 15 ≤ stock) × (stock + 5 * a .0 + 5 ≤ length (now words)) × (stock + 5 * b .0 + 5 ≤ length (now words)) × (stock + 5 * c .0 + 5 ≤ length (now words)) ⌝ }
+    ensures { λ _. ⌜ now (words .exit) ≡ sets (now (words .entry)) off (runWords (wordIn (now (words .entry))) stock (a .0 ∷ b .0 ∷ c .0 ∷ [])) ⌝ }
+{
+    copy_point(words, stock + 5 * (a.0 as usize), off);
+    copy_point(words, stock + 5 * (b.0 as usize), off + 5);
+    copy_point(words, stock + 5 * (c.0 as usize), off + 10);
+}
+
+// Stores the words of a run of points that is known to be read whole: before the stock by copies from it, then point by point.
+fn copy_run(
+    s: &[u8],
+    p: usize,
+    w: usize,
+    m: u32,
+    count: u32,
+    numbers: &[u16],
+    base: usize,
+    words: &mut [u32],
+    off: usize,
+    stock: usize,
+)
+    requires { ⌜ (length (now s) ≤ 67108864) × (w ≤ 17) × (m ≤ 65536) × (64 ≤ p) × (off + 5 * count ≤ length (now words)) × Pooled (now s) (now numbers) base (5 * m) ⌝ }
+    requires { ⌜ WasRead (readRun (now s) w m count p one) × StockedFrom off (now s) (now numbers) base (5 * m) (now words) stock ⌝ }
+    ensures { λ _. ⌜ now (words .exit) ≡ sets (now (words .entry)) off (runWords (wordAt (now (s .entry)) (now (numbers .entry))) base (runNumbers (readRun (now (s .entry)) w m count p one))) ⌝ }
+{
+    let mut bit = p;
+    let mut last: u16 = 0;
+    let mut left = count;
+    let mut o = off;
+    while 3 <= left {
+        if stock < o + 15 {
+            draw_run(
+                s,
+                bit,
+                w,
+                m,
+                left,
+                VertexNumber(last),
+                numbers,
+                base,
+                words,
+                o,
+            );
+            return;
+        }
+        let f = three_fields(s, bit, w);
+        let a = bits::stepped(last as u32, f.a) as u16;
+        let b = bits::stepped(a as u32, f.b) as u16;
+        last = bits::stepped(b as u32, f.c) as u16;
+        copy_three(
+            words,
+            stock,
+            VertexNumber(a),
+            VertexNumber(b),
+            VertexNumber(last),
+            o,
+        );
+        o += 15;
+        bit += 3 * w;
+        left -= 3;
+    }
+    draw_run(
+        s,
+        bit,
+        w,
+        m,
+        left,
+        VertexNumber(last),
+        numbers,
+        base,
+        words,
+        o,
+    );
+}
+
+// Stores the words of some submeshes that are known to be read whole, and returns the place after them. The stock is at 0 where there is none.
 fn draw_submeshes(
+    s: &[u8],
+    p: usize,
+    m: u32,
+    count: u32,
+    numbers: &[u16],
+    base: usize,
+    words: &mut [u32],
+    off: usize,
+    stock: usize,
+) -> usize
+    requires { ⌜ (length (now s) ≤ 67108864) × (m ≤ 65536) × (64 ≤ p) × (off + 5 * pointCount (submeshesRead (many (readSubmesh (now s) (widthOf m) m) count p)) ≤ length (now words)) × Pooled (now s) (now numbers) base (5 * m) ⌝ }
+    requires { ⌜ WasRead (many (readSubmesh (now s) (widthOf m) m) count p) × StockedFrom off (now s) (now numbers) base (5 * m) (now words) stock ⌝ }
+    ensures { λ r. ⌜ r ≡ off + 5 * pointCount (submeshesRead (many (readSubmesh (now (s .entry)) (widthOf m) m) count p)) ⌝ }
+    ensures { λ _. ⌜ now (words .exit) ≡ sets (now (words .entry)) off (submeshWords (wordAt (now (s .entry)) (now (numbers .entry))) base (submeshesRead (many (readSubmesh (now (s .entry)) (widthOf m) m) count p))) ⌝ }
+{
+    let w = bits::bit_width(m) as usize;
+    let mut bit = p;
+    let mut left = count;
+    let mut o = off;
+    while 0 < left {
+        let n = one_field(s, bit + 16, 32);
+        copy_run(s, bit + 48, w, m, n, numbers, base, words, o, stock);
+        o += 5 * (n as usize);
+        bit += 48 + (n as usize) * w;
+        left -= 1;
+    }
+    o
+}
+
+// Stores the words of count coordinates, whose numbers stand in numbers from base on.
+fn fill_stock(s: &[u8], numbers: &[u16], base: usize, count: usize, words: &mut [u32], at: usize)
+    requires { ⌜ (length (now s) ≤ 67108864) × (at + count ≤ length (now words)) × Pooled (now s) (now numbers) base count ⌝ }
+    ensures { λ _. ⌜ now (words .exit) ≡ sets (now (words .entry)) at (wordsFrom (wordAt (now (s .entry)) (now (numbers .entry))) base count) ⌝ }
+{
+    let mut k = base;
+    let mut o = at;
+    let mut left = count;
+    while 0 < left {
+        words[o] = word_at(s, numbers, k);
+        k += 1;
+        o += 1;
+        left -= 1;
+    }
+}
+
+// How many points some submeshes have that are known to be read whole.
+fn count_points(s: &[u8], p: usize, m: u32, count: u32) -> usize
+    requires { ⌜ (length (now s) ≤ 67108864) × (m ≤ 65536) × (64 ≤ p) × (pointCount (submeshesRead (many (readSubmesh (now s) (widthOf m) m) count p)) < 18446744073709551616) ⌝ }
+    requires { ⌜ WasRead (many (readSubmesh (now s) (widthOf m) m) count p) ⌝ }
+    ensures { λ r. ⌜ r ≡ pointCount (submeshesRead (many (readSubmesh (now (s .entry)) (widthOf m) m) count p)) ⌝ }
+{
+    let w = bits::bit_width(m) as usize;
+    let mut bit = p;
+    let mut left = count;
+    let mut points: usize = 0;
+    while 0 < left {
+        let k = one_field(s, bit + 16, 32) as usize;
+        points += k;
+        bit += 48 + k * w;
+        left -= 1;
+    }
+    points
+}
+
+// Stores the words of all submeshes of a mesh, which are known to be read whole, and returns the place after them. There is a stock where the
+// points are three for each vertex or more: with fewer it costs more than it saves, and with few vertices the counting does.
+fn draw_stocked(
     s: &[u8],
     p: usize,
     m: u32,
@@ -182,18 +354,17 @@ fn draw_submeshes(
     ensures { λ r. ⌜ r ≡ off + 5 * pointCount (submeshesRead (many (readSubmesh (now (s .entry)) (widthOf m) m) count p)) ⌝ }
     ensures { λ _. ⌜ now (words .exit) ≡ sets (now (words .entry)) off (submeshWords (wordAt (now (s .entry)) (now (numbers .entry))) base (submeshesRead (many (readSubmesh (now (s .entry)) (widthOf m) m) count p))) ⌝ }
 {
-    let w = bits::bit_width(m) as usize;
-    let mut bit = p;
-    let mut left = count;
-    let mut o = off;
-    while 0 < left {
-        let n = one_field(s, bit + 16, 32);
-        draw_run(s, bit + 48, w, m, n, numbers, base, words, o);
-        o += 5 * (n as usize);
-        bit += 48 + (n as usize) * w;
-        left -= 1;
+    let vertices = m as usize;
+    if vertices < 64 {
+        return draw_submeshes(s, p, m, count, numbers, base, words, off, 0);
     }
-    o
+    let points = count_points(s, p, m, count);
+    if points < 3 * vertices {
+        return draw_submeshes(s, p, m, count, numbers, base, words, off, 0);
+    }
+    let stock = off + 5 * (points - vertices);
+    fill_stock(s, numbers, base, 5 * vertices, words, stock);
+    draw_submeshes(s, p, m, count, numbers, base, words, off, stock)
 }
 
 // Where the next mesh's coordinate numbers and words go.
@@ -222,7 +393,7 @@ fn draw_mesh(s: &[u8], numbers: &mut [u16], words: &mut [u32], to: Place) -> Pla
         numbers,
         base,
     );
-    let end = draw_submeshes(s, h.first, m, h.submeshes, &numbers[..], base, words, off);
+    let end = draw_stocked(s, h.first, m, h.submeshes, &numbers[..], base, words, off);
     Place {
         base: base + 5 * (m as usize),
         off: end,

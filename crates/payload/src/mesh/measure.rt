@@ -6,6 +6,7 @@ use super::kept;
 use super::one_field;
 use super::step_five;
 use super::three_fields;
+use super::two_fields;
 use super::word;
 use bits::BoxHeader;
 use bits::ByteCursor;
@@ -74,20 +75,19 @@ fn check_points_left(
     RunEnd::At(bit)
 }
 
-// A run of vertex numbers: one running number, three fields to a window.
+// A run of vertex numbers: one running number, three fields to a window. That the run is complete is tested once; one that is not goes
+// field by field, since a number may leave before a field is missing.
 fn check_points(s: &[u8], p: usize, w: usize, limit: u32, count: u32) -> RunEnd
     requires { ⌜ (length (now s) ≤ 67108864) × (w ≤ 17) × (limit ≤ 65536) × (64 ≤ p) × (p ≤ 8 * length (now s)) ⌝ }
     ensures { λ r. ⌜ runSays r ≡ mapped placeOf (readRun (now (s .entry)) w limit count p one) ⌝ }
 {
-    let end = s.len() * 8;
-    let group = 3 * w;
+    if s.len() * 8 - p < (count as usize) * w {
+        return check_points_left(s, p, w, limit, count, VertexNumber(0));
+    }
     let mut bit = p;
     let mut last: u32 = 0;
     let mut left = count;
     while 3 <= left {
-        if end - bit < group {
-            return check_points_left(s, bit, w, limit, left, VertexNumber(last as u16));
-        }
         let f = three_fields(s, bit, w);
         let a = bits::stepped(last, f.a);
         if limit as u64 <= a {
@@ -102,7 +102,7 @@ fn check_points(s: &[u8], p: usize, w: usize, limit: u32, count: u32) -> RunEnd
             return RunEnd::Declined(8);
         }
         last = c as u32;
-        bit += group;
+        bit += 3 * w;
         left -= 3;
     }
     check_points_left(s, bit, w, limit, left, VertexNumber(last as u16))
@@ -145,7 +145,6 @@ fn check_vertices(s: &[u8], p: usize, w: usize, limit: u32, count: u32) -> RunEn
     requires { ⌜ (length (now s) ≤ 67108864) × (w ≤ 17) × (limit ≤ 65536) × (count ≤ 65536) × (64 ≤ p) × (p ≤ 8 * length (now s)) ⌝ }
     ensures { λ r. ⌜ runSays r ≡ mapped placeOf (readRun (now (s .entry)) w limit (5 * count) p five) ⌝ }
 {
-    let end = s.len() * 8;
     let group = 5 * w;
     let mut bit = p;
     let mut v = Five {
@@ -156,11 +155,13 @@ fn check_vertices(s: &[u8], p: usize, w: usize, limit: u32, count: u32) -> RunEn
         e: 0,
     };
     let mut left = count;
+    if s.len() * 8 - p < (count as usize) * group {
+        return check_vertices_left(s, p, w, limit, 5 * count, v);
+    }
     while 0 < left {
-        if end - bit < group {
-            return check_vertices_left(s, bit, w, limit, 5 * left, v);
-        }
-        let next = step_five(s, bit, w, v);
+        let f = three_fields(s, bit, w);
+        let g = two_fields(s, bit + 3 * w, w);
+        let next = step_five(v, f, g);
         if limit as u64 <= next.a {
             return RunEnd::Declined(8);
         }

@@ -11,6 +11,7 @@ use Rattle.payload.specs.declared.mesh.Five.{Five}
 use Rattle.payload.specs.declared.mesh.FiveNext.{FiveNext}
 use Rattle.payload.proofs.FillLaws.{sets-append}
 use Rattle.payload.proofs.StepLaws as step
+use borrow.Author.Needs.{needs}
 use Rattle.payload.proofs.mesh.fill_vertices.Statement.{statement}
 use Rattle.payload.proofs.mesh.fill_vertices.Tie as tie
 
@@ -52,17 +53,34 @@ reached c =
 
 -- and take the running numbers to its numbers
 gets : (c : tie.After-step-five Inv-loop μ-loop)
-    → step.Got5 (c .before .before .before .before .before .args .s .now) (c .before .before .before .before .before .args .w) (c .before .before .before .before .before .args .limit) (5 * c .before .before .loop .left) (c .before .before .loop .bit) (c .before .before .loop .v) (c .step-five .result)
+    → let a = c .before .before .before .before .before .before .before .args in
+    let l = c .before .before .before .before .loop in
+    step.Got5 (a .s .now) (a .w) (a .limit) (5 * l .left) (l .bit) (l .v) (c .step-five .result)
 gets c =
-    let a = c .before .before .before .before .before .args in
-    let l = c .before .before .loop in
-    step.got5 (a .s .now) (a .w) (a .limit) (5 * l .left) (l .bit) (l .v) (c .step-five .result) (omega arith) (l .inv .read) (c .step-five .ensures)
+    let a = c .before .before .before .before .before .before .before .args in
+    let l = c .before .before .before .before .loop in
+    let g = c .before .two-fields in
+    let f = c .before .before .three-fields in
+    step.got5 (a .s .now) (a .w) (a .limit) (5 * l .left) (l .bit) (l .v) (c .step-five .result) (omega arith) (l .inv .read)
+    (step.steps (a .s .now) (a .w) (l .bit) (l .v) (f .result) (g .result) (c .step-five .result) (f .ensures) (g .ensures) (c .step-five .ensures))
 
 loop-holds : tie.Need-loop-holds Inv-loop μ-loop
 loop-holds c = record { same = refl; read = c .before .before .pre .1; room = omega arith; long = refl; low = omega arith }
 
+three-fields-requires : tie.Need-three-fields-requires Inv-loop μ-loop
+three-fields-requires c κs = omega (arith, reached c)
+
+mul-two-fields : tie.Need-mul-two-fields Inv-loop μ-loop
+mul-two-fields c = omega arith
+
+add-two-fields : tie.Need-add-two-fields Inv-loop μ-loop
+add-two-fields c = omega (arith, reached (c .before))
+
+two-fields-requires : tie.Need-two-fields-requires Inv-loop μ-loop
+two-fields-requires c κs = omega (arith, reached (c .before))
+
 step-five-requires : tie.Need-step-five-requires Inv-loop μ-loop
-step-five-requires c κs = let r = reached c in omega arith
+step-five-requires c κs = search needs
 
 kept-requires : tie.Need-kept-requires Inv-loop μ-loop
 kept-requires c κs = let g = gets c in omega (arith, g .below)
@@ -71,17 +89,20 @@ put-five-requires : tie.Need-put-five-requires Inv-loop μ-loop
 put-five-requires c κs =
     let k = c .before .kept in
     let g = gets (c .before .before) in
-    let b = kept-below (k .result) (c .before .before .step-five .result) (k .ensures) (omega (arith, g .below)) in
-    omega (arith, b)
+    let i = c .before .before .before .before .before in
+    let b = kept-below (k .result) (c .before .before .step-five .result) (k .ensures) (omega (arith, g .below, i .before .before .before .before .pre .0 .2)) in
+    omega (arith, b, i .before .loop .inv .room, i .loop-test .taken)
 
 add-place : tie.Need-add-place Inv-loop μ-loop
-add-place c = omega arith
+add-place c = let i = c .before .before .before .before .before .before .before .before in omega (arith, i .before .loop .inv .room, i .loop-test .taken)
 
 mul-bit : tie.Need-mul-bit Inv-loop μ-loop
-mul-bit c = omega arith
+mul-bit c = omega (arith, c .before .before .before .before .before .before .before .before .before .before .before .before .pre .0 .1)
 
 add-bit : tie.Need-add-bit Inv-loop μ-loop
-add-bit c = let g = gets (c .before .before .before .before .before) in omega (arith, g .room)
+add-bit c =
+    let m = c .before .before .before .before .before in
+    omega (arith, gets m .room, m .before .before .before .before .before .before .before .pre .0 .0)
 
 sub-left : tie.Need-sub-left Inv-loop μ-loop
 sub-left c = omega arith
@@ -94,8 +115,8 @@ loop-again c =
     let d = c .before .before in
     let k = d .before .before in
     let m = k .before in
-    let l = m .before .before .loop in
-    let a = m .before .before .before .before .before .args in
+    let l = m .before .before .before .before .loop in
+    let a = m .before .before .before .before .before .before .before .args in
     let t = stored (a .s .now) (a .w) (a .limit) (l .left) (l .bit) (l .v) (k .kept .result) (m .step-five .result) (l .out) (d .put-five .last .0) (l .place) (omega arith) (gets m) (k .kept .ensures) (d .put-five .ensures) in
     record {
       same = l .inv .same ∙ t .0;
@@ -122,6 +143,10 @@ fill-vertices-spec =
     Inv-loop
     μ-loop
     loop-holds
+    three-fields-requires
+    mul-two-fields
+    add-two-fields
+    two-fields-requires
     step-five-requires
     kept-requires
     put-five-requires

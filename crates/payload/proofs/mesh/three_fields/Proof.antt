@@ -1,6 +1,8 @@
--- `three_fields` meets its contract: each field lies in the window that ends with the third. Assumes nothing.
-use Prim.Native.Nat.{_+_, _*_}
+-- `three_fields` meets its contract: each field lies in the window that ends with the third, and two shifts by w are one by w and w. Assumes nothing.
+use mathlib.Core.Path.{_≡_, ap, _∙_}
+use Prim.Native.Nat.{ℕ, _+_, _*_, _/_, _%_, _^_}
 use native.Mathlib.Omega.{arith}
+use lib.Pow.{shr-shr}
 use Rattle.payload.specs.Internal.{wideBits}
 use Rattle.payload.proofs.WindowLaws.{window-field}
 use borrow.Author.Needs.{needs}
@@ -16,8 +18,8 @@ add-wide-window c = search needs
 wide-window-requires : tie.Need-wide-window-requires
 wide-window-requires c κs = search needs
 
-mul-bits-above : tie.Need-mul-bits-above
-mul-bits-above c = search needs
+shr-y : tie.Need-shr-y
+shr-y c = search needs
 
 bits-above-requires : tie.Need-bits-above-requires
 bits-above-requires c κs = search needs
@@ -33,9 +35,10 @@ returns c =
     let a = c .before .before .before .before .before .args in
     let x = c .before .before .before .wide-window in
     let w = a .w in
-    let q = a .p + 3 * w in (
-      window-field (a .s .now) (a .p) w (2 * w) q (wideBits q) (x .result) _ (omega arith) (omega arith) (omega arith) (x .ensures) (c .before .before .bits-above .ensures),
-      window-field (a .s .now) (a .p + w) w w q (wideBits q) (x .result) _ (omega arith) (omega arith) (omega arith) (x .ensures) (c .before .bits-above2 .ensures),
+    let q = a .p + 3 * w in
+    let again : (k : ℕ) → x .result / 2 ^ w / 2 ^ k % 2 ^ w ≡ x .result / 2 ^ (w + k) % 2 ^ w = λ k. ap (λ (y : ℕ). y % 2 ^ w) (shr-shr (x .result) w k) in (
+      window-field (a .s .now) (a .p) w (w + w) q (wideBits q) (x .result) _ (omega arith) (omega arith) (omega arith) (x .ensures) (c .before .before .bits-above .ensures ∙ again w),
+      window-field (a .s .now) (a .p + w) w (w + 0) q (wideBits q) (x .result) _ (omega arith) (omega arith) (omega arith) (x .ensures) (c .before .bits-above2 .ensures ∙ again 0),
       window-field (a .s .now) (a .p + w + w) w 0 q (wideBits q) (x .result) _ (omega arith) (omega arith) (omega arith) (x .ensures) (c .bits-above3 .ensures),
     )
 
@@ -46,7 +49,7 @@ three-fields-spec =
     mul-wide-window
     add-wide-window
     wide-window-requires
-    mul-bits-above
+    shr-y
     bits-above-requires
     bits-above-requires-2
     bits-above-requires-3

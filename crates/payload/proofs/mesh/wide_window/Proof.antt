@@ -1,5 +1,5 @@
 -- `wide_window` meets its contract: two words without the bits after q. Assumes nothing.
-use Prim.Native.Nat.{_+_, _-_, _*_, _/_}
+use Prim.Native.Nat.{_+_, _-_, _/_, _%_}
 use native.Mathlib.Omega.{arith}
 use Rattle.payload.specs.Internal.{wideBits}
 use Rattle.payload.proofs.WindowLaws.{window-is}
@@ -7,8 +7,8 @@ use borrow.Author.Needs.{needs}
 use Rattle.payload.proofs.mesh.wide_window.Statement.{statement}
 use Rattle.payload.proofs.mesh.wide_window.Tie as tie
 
-add-e : tie.Need-add-e
-add-e c = search needs
+add-r : tie.Need-add-r
+add-r c = search needs
 
 sub-word : tie.Need-sub-word
 sub-word c = search needs
@@ -34,9 +34,6 @@ cast-x-2 c = search needs
 add-x : tie.Need-add-x
 add-x c = search needs
 
-mul-result : tie.Need-mul-result
-mul-result c = search needs
-
 sub-result : tie.Need-sub-result
 sub-result c = search needs
 
@@ -47,13 +44,13 @@ returns : tie.Need-returns
 returns c =
     let a = c .before .before .before .args in
     let e = (a .q + 7) / 8 in
-    window-is (a .s .now) 4 e (a .q) (e * 8 - a .q) (wideBits (a .q)) (c .before .word .result) (c .word2 .result) (omega arith) (omega arith) (omega arith) (c .before .word .ensures) (c .word2 .ensures)
+    window-is (a .s .now) 4 e (a .q) (7 - (a .q + 7) % 8) (wideBits (a .q)) (c .before .word .result) (c .word2 .result) (omega arith) (omega arith) (omega arith) (c .before .word .ensures) (c .word2 .ensures)
 
 pub wide-window-spec : {M : Type 1} → statement M
 wide-window-spec =
     tie.close
     (tie.spec
-    add-e
+    add-r
     sub-word
     word-requires
     cast-x
@@ -62,7 +59,6 @@ wide-window-spec =
     word-requires-2
     cast-x-2
     add-x
-    mul-result
     sub-result
     shr-result
     returns)

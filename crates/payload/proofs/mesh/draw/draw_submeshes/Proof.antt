@@ -10,26 +10,28 @@ use Rattle.bits.specs.Number.{widthOf}
 use Rattle.payload.specs.Mesh.{Submesh}
 use Rattle.payload.specs.MeshRead.{many, readSubmesh}
 use Rattle.payload.specs.MeshDrawing.{submeshWords, pointCount}
-use Rattle.payload.specs.Internal.{wordAt, submeshesRead}
+use Rattle.payload.specs.Internal.{wordAt, StockedFrom, submeshesRead}
 use Rattle.payload.proofs.DrawLaws.{SubmeshTurn, SubmeshesLeft, submeshes-left, left-turn, left-room, left-on, submesh-drawn, submesh-words-none, submeshes-end, points-first}
+use Rattle.payload.proofs.StockLaws.{stocked-after-run}
 use borrow.Author.Needs.{needs}
 use Rattle.payload.proofs.mesh.draw.draw_submeshes.Statement.{statement}
 use Rattle.payload.proofs.mesh.draw.draw_submeshes.Tie as tie
 
-pub record Inv (s : List ℕ) (w m : ℕ) (numbers : List ℕ) (base : ℕ) (words₀ all : List ℕ) (end : ℕ) (words : List ℕ) (bit left o : ℕ) : Type 0 where
+pub record Inv (s : List ℕ) (w m : ℕ) (numbers : List ℕ) (base : ℕ) (words₀ all : List ℕ) (end stock : ℕ) (words : List ℕ) (bit left o : ℕ) : Type 0 where
   pub go : SubmeshesLeft s w m left bit
   pub same : all ≡ sets words o (submeshWords (wordAt s numbers) base (submeshesRead (many (readSubmesh s w m) left bit)))
   pub place : end ≡ o + 5 * pointCount (submeshesRead (many (readSubmesh s w m) left bit))
   pub room : o + 5 * pointCount (submeshesRead (many (readSubmesh s w m) left bit)) ≤ length words
   pub long : length words ≡ length words₀
+  pub stocked : StockedFrom o s numbers base (5 * m) words stock
 
 abbrev Inv-loop : tie.InvT-loop
-Inv-loop s p m count numbers base words₀ off w bit₀ left₀ o₀ words bit left o =
+Inv-loop s p m count numbers base words₀ off stock w bit₀ left₀ o₀ words bit left o =
     Inv s w m numbers base words₀ (sets words₀ off (submeshWords (wordAt s numbers) base (submeshesRead (many (readSubmesh s (widthOf m) m) count p))))
-    (off + 5 * pointCount (submeshesRead (many (readSubmesh s (widthOf m) m) count p))) words bit left o
+    (off + 5 * pointCount (submeshesRead (many (readSubmesh s (widthOf m) m) count p))) stock words bit left o
 
 abbrev μ-loop : tie.MeasureT-loop
-μ-loop s p m count numbers base words₀ off w bit₀ left₀ o₀ words bit left o = left
+μ-loop s p m count numbers base words₀ off stock w bit₀ left₀ o₀ words bit left o = left
 
 bit-width-requires : tie.Need-bit-width-requires Inv-loop μ-loop
 bit-width-requires c κs = search needs
@@ -42,11 +44,12 @@ loop-holds c =
     let a = c .before .before .before .before in
     let e = c .bit-width .ensures in
     record {
-      go = submeshes-left (now (a .args .s)) (c .bit-width .result) (a .args .m) (a .args .count) (a .args .p) e (a .pre .0 .1) (a .pre .0 .2) (a .pre .1);
+      go = submeshes-left (now (a .args .s)) (c .bit-width .result) (a .args .m) (a .args .count) (a .args .p) e (a .pre .0 .1) (a .pre .0 .2) (a .pre .1 .0);
       same = rw e;
       place = rw e;
       room = rw e (a .pre .0 .3);
       long = refl;
+      stocked = a .pre .1 .1;
     }
 
 -- the submesh of the turn
@@ -63,16 +66,16 @@ add-one-field c = omega (arith, left-room (c .before .loop .inv .go) (omega arit
 one-field-requires : tie.Need-one-field-requires Inv-loop μ-loop
 one-field-requires c κs = let l = c .before .loop .inv .go in omega (arith, left-room l (omega arith), l .low)
 
-add-draw-run : tie.Need-add-draw-run Inv-loop μ-loop
-add-draw-run c = omega (arith, known c .1 .ends)
+add-copy-run : tie.Need-add-copy-run Inv-loop μ-loop
+add-copy-run c = omega (arith, known c .1 .ends)
 
-draw-run-requires : tie.Need-draw-run-requires Inv-loop μ-loop
-draw-run-requires c κs =
+copy-run-requires : tie.Need-copy-run-requires Inv-loop μ-loop
+copy-run-requires c κs =
     let d = c .before in
     let a = d .before .before .before .before .before .before .before in
     let l = d .before .before .loop .inv in
     let t = known d in
-    ((a .pre .0 .0, l .go .narrow, l .go .most, omega (arith, l .go .low), fits d, a .pre .0 .4), rw (t .1 .run) tt)
+    ((a .pre .0 .0, l .go .narrow, l .go .most, omega (arith, l .go .low), fits d, a .pre .0 .4), (rw (t .1 .run) tt, l .stocked))
 
 cast-o : tie.Need-cast-o Inv-loop μ-loop
 cast-o c = search needs
@@ -113,10 +116,11 @@ loop-again c =
     record {
       go = left-on (l .inv .go) (r .one-field .result) (t .0) (t .1);
       same = l .inv .same
-          ∙ submesh-drawn (wordAt (now (a .s)) (now (a .numbers))) (a .base) (now (a .s)) w (a .m) (l .left) (l .bit) (r .one-field .result) (t .0) (l .words) _ (l .o) (t .1) (d .draw-run .ensures);
+          ∙ submesh-drawn (wordAt (now (a .s)) (now (a .numbers))) (a .base) (now (a .s)) w (a .m) (l .left) (l .bit) (r .one-field .result) (t .0) (l .words) _ (l .o) (t .1) (d .copy-run .ensures);
       place = l .inv .place ∙ omega (arith, p, t .1 .count);
-      room = omega (arith, l .inv .room, p, t .1 .count, d .draw-run .kept .1 .1 .1 .1 .1 .1 .1 .0);
-      long = d .draw-run .kept .1 .1 .1 .1 .1 .1 .1 .0 ∙ l .inv .long;
+      room = omega (arith, l .inv .room, p, t .1 .count, d .copy-run .kept .1 .1 .1 .1 .1 .1 .1 .0);
+      long = d .copy-run .kept .1 .1 .1 .1 .1 .1 .1 .0 ∙ l .inv .long;
+      stocked = stocked-after-run (wordAt (now (a .s)) (now (a .numbers))) (a .base) (l .words) _ (l .o) (r .one-field .result) _ (d .copy-run .ensures) (rw (t .1 .run) (sym (t .1 .count))) (l .inv .stocked);
     }
 
 same-length : tie.Need-same-length Inv-loop μ-loop
@@ -141,8 +145,8 @@ draw-submeshes-spec =
     loop-holds
     add-one-field
     one-field-requires
-    add-draw-run
-    draw-run-requires
+    add-copy-run
+    copy-run-requires
     cast-o
     mul-o
     add-o

@@ -1,47 +1,55 @@
 -- `check_points` meets its contract. The invariant: the answer from here on is the whole answer. Assumes nothing.
-use Prim.Native.Nat.{_*_, _≤_, _<_}
+use Prim.Native.Nat.{_+_, _-_, _*_, _≤_, _<_}
 use mathlib.Core.Path.{_≡_, refl, sym, _∙_}
 use mathlib.Core.List.{[], _∷_}
 use native.Mathlib.Omega.{arith}
+use native.Mathlib.Nat.{mul-le-mul-left}
 use lib.ListN.{length}
 use borrow.Author.Needs.{needs}
 use Rattle.bits.specs.Verdict.{mapped}
 use Rattle.payload.specs.Run.{readRun, one}
 use Rattle.payload.specs.Internal.{placeOf}
-use Rattle.payload.proofs.CheckLaws.{three-out₁, three-out₂, three-out₃, three-on}
+use Rattle.payload.proofs.CheckLaws.{group-fits, three-out₁, three-out₂, three-out₃, three-on}
 use Rattle.payload.proofs.mesh.measure.check_points.Statement.{statement}
 use Rattle.payload.proofs.mesh.measure.check_points.Tie as tie
 
 abbrev Inv-loop : tie.InvT-loop
-Inv-loop s p w limit count end group bit₀ last₀ left₀ bit last left =
-    (mapped placeOf (readRun s w limit count p one) ≡ mapped placeOf (readRun s w limit left bit (last ∷ []))) × (64 ≤ bit) × (bit ≤ 8 * length s) × (last < 65536)
+Inv-loop s p w limit count bit₀ last₀ left₀ bit last left =
+    (mapped placeOf (readRun s w limit count p one) ≡ mapped placeOf (readRun s w limit left bit (last ∷ []))) × (64 ≤ bit) × (bit + left * w ≤ 8 * length s) × (last < 65536)
 
 abbrev μ-loop : tie.MeasureT-loop
-μ-loop s p w limit count end group bit₀ last₀ left₀ bit last left = left
+μ-loop s p w limit count bit₀ last₀ left₀ bit last left = left
 
-mul-end : tie.Need-mul-end Inv-loop μ-loop
-mul-end c = omega arith
-
-mul-group : tie.Need-mul-group Inv-loop μ-loop
-mul-group c = omega arith
-
-loop-holds : tie.Need-loop-holds Inv-loop μ-loop
-loop-holds c = (refl, omega arith, omega arith, omega arith)
+mul-if1 : tie.Need-mul-if1 Inv-loop μ-loop
+mul-if1 c = omega arith
 
 sub-if1 : tie.Need-sub-if1 Inv-loop μ-loop
 sub-if1 c = omega arith
 
-cast-t18 : tie.Need-cast-t18 Inv-loop μ-loop
-cast-t18 c = omega arith
+mul-if1-2 : tie.Need-mul-if1-2 Inv-loop μ-loop
+mul-if1-2 c = let a = c .before in omega (arith, mul-le-mul-left (a .args .count) (a .pre .1))
 
 check-points-left-requires : tie.Need-check-points-left-requires Inv-loop μ-loop
 check-points-left-requires c κs = omega arith
 
 returns : tie.Need-returns Inv-loop μ-loop
-returns c = c .check-points-left .ensures ∙ sym (c .before .before .before .loop .inv .0)
+returns c = c .check-points-left .ensures
+
+loop-holds : tie.Need-loop-holds Inv-loop μ-loop
+loop-holds c = (refl, omega arith, omega arith, omega arith)
+
+-- the next three fields, and those after them, lie within the bytes
+fits : (c : tie.In-loop Inv-loop μ-loop)
+    → let a = c .before .before .before .before .args in
+    let l = c .before .loop in
+    (l .bit + 3 * a .w ≤ 8 * length (a .s .now)) × (l .bit + 3 * a .w + (l .left - 3) * a .w ≤ 8 * length (a .s .now))
+fits c =
+    let a = c .before .before .before .before .args in
+    let l = c .before .loop in
+    group-fits 3 (l .left) (a .w) (l .bit) (8 * length (a .s .now)) (omega arith) (l .inv .2)
 
 three-fields-requires : tie.Need-three-fields-requires Inv-loop μ-loop
-three-fields-requires c κs = omega arith
+three-fields-requires c κs = omega (arith, fits c .0)
 
 stepped-requires : tie.Need-stepped-requires Inv-loop μ-loop
 stepped-requires c κs = search needs
@@ -49,9 +57,9 @@ stepped-requires c κs = search needs
 returns-2 : tie.Need-returns-2 Inv-loop μ-loop
 returns-2 c =
     let m = c .before in
-    let l = m .before .before .before .before .loop in
+    let l = m .before .before .before .loop in
     let a = m .before .before .before .before .before .before .args in
-    sym (l .inv .0 ∙ three-out₁ (a .s .now) (a .w) (a .limit) (l .left) (l .bit) (l .last) (m .stepped .result) 0 0 (omega arith) (omega arith) (cc) (omega arith))
+    sym (l .inv .0 ∙ three-out₁ (a .s .now) (a .w) (a .limit) (l .left) (l .bit) (l .last) (m .stepped .result) 0 0 (omega arith) (fits (m .before .before) .0) (cc) (omega arith))
 
 cast-stepped : tie.Need-cast-stepped Inv-loop μ-loop
 cast-stepped c = omega arith
@@ -62,11 +70,11 @@ stepped-requires-2 c κs = search needs
 returns-3 : tie.Need-returns-3 Inv-loop μ-loop
 returns-3 c =
     let m = c .before .before .before in
-    let l = m .before .before .before .before .loop in
+    let l = m .before .before .before .loop in
     let a = m .before .before .before .before .before .before .args in
     sym
     (l .inv .0
-    ∙ three-out₂ (a .s .now) (a .w) (a .limit) (l .left) (l .bit) (l .last) (m .stepped .result) (c .before .stepped2 .result) 0 (omega arith) (omega arith) (cc) (omega arith) (cc) (omega arith))
+    ∙ three-out₂ (a .s .now) (a .w) (a .limit) (l .left) (l .bit) (l .last) (m .stepped .result) (c .before .stepped2 .result) 0 (omega arith) (fits (m .before .before) .0) (cc) (omega arith) (cc) (omega arith))
 
 cast-stepped-2 : tie.Need-cast-stepped-2 Inv-loop μ-loop
 cast-stepped-2 c = omega arith
@@ -77,18 +85,21 @@ stepped-requires-3 c κs = search needs
 returns-4 : tie.Need-returns-4 Inv-loop μ-loop
 returns-4 c =
     let m = c .before .before .before .before .before in
-    let l = m .before .before .before .before .loop in
+    let l = m .before .before .before .loop in
     let a = m .before .before .before .before .before .before .args in
     sym
     (l .inv .0
     ∙ three-out₃ (a .s .now) (a .w) (a .limit) (l .left) (l .bit) (l .last) (m .stepped .result) (c .before .before .before .stepped2 .result) (c .before .stepped3 .result)
-    (omega arith) (omega arith) (cc) (omega arith) (cc) (omega arith) (cc) (omega arith))
+    (omega arith) (fits (m .before .before) .0) (cc) (omega arith) (cc) (omega arith) (cc) (omega arith))
 
 cast-last : tie.Need-cast-last Inv-loop μ-loop
 cast-last c = omega arith
 
+mul-bit : tie.Need-mul-bit Inv-loop μ-loop
+mul-bit c = omega arith
+
 add-bit : tie.Need-add-bit Inv-loop μ-loop
-add-bit c = omega arith
+add-bit c = omega (arith, fits (c .before .before .before .before .before .before .before) .0)
 
 loop-less : tie.Need-loop-less Inv-loop μ-loop
 loop-less c = omega arith
@@ -96,18 +107,19 @@ loop-less c = omega arith
 loop-again : tie.Need-loop-again Inv-loop μ-loop
 loop-again c =
     let m = c .before .before .before .before .before in
-    let l = m .before .before .before .before .loop in
-    let a = m .before .before .before .before .before .before .args in (
+    let l = m .before .before .before .loop in
+    let a = m .before .before .before .before .before .before .args in
+    let f = fits (m .before .before) in (
       l .inv .0
           ∙ three-on (a .s .now) (a .w) (a .limit) (l .left) (l .bit) (l .last) (m .stepped .result) (c .before .before .before .stepped2 .result) (c .before .stepped3 .result)
-          (omega arith) (omega arith) (cc) (omega arith) (cc) (omega arith) (cc) (omega arith),
+          (omega arith) (f .0) (cc) (omega arith) (cc) (omega arith) (cc) (omega arith),
       omega arith,
-      omega arith,
+      f .1,
       omega arith,
     )
 
-cast-t22 : tie.Need-cast-t22 Inv-loop μ-loop
-cast-t22 c = omega arith
+cast-t24 : tie.Need-cast-t24 Inv-loop μ-loop
+cast-t24 c = omega arith
 
 check-points-left-requires-2 : tie.Need-check-points-left-requires-2 Inv-loop μ-loop
 check-points-left-requires-2 c κs = omega arith
@@ -121,13 +133,12 @@ check-points-spec =
     (tie.spec
     Inv-loop
     μ-loop
-    mul-end
-    mul-group
-    loop-holds
+    mul-if1
     sub-if1
-    cast-t18
+    mul-if1-2
     check-points-left-requires
     returns
+    loop-holds
     three-fields-requires
     stepped-requires
     returns-2
@@ -138,9 +149,10 @@ check-points-spec =
     stepped-requires-3
     returns-4
     cast-last
+    mul-bit
     add-bit
     loop-less
     loop-again
-    cast-t22
+    cast-t24
     check-points-left-requires-2
     returns-5)
