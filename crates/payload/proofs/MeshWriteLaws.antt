@@ -76,21 +76,6 @@ step-fits n last next hl hn = go (decLe last next)
     go (yes h) = omega (arith, step-up last next h)
     go (no h) = omega (arith, step-down last next (omega arith))
 
--- the same without a branch, as the code works it out
-pub step-is : (last next rises twice : ℕ) → last < 65536 → next < 65536 → rises ≡ (next + 65536 - last) / 65536 → twice ≡ (next + 65536 - last) * 2
-    → (rises * twice ≤ 262144) × (twice + rises * 262143 ≤ 131071 + rises * twice * 2) × (131071 + rises * twice * 2 - twice - rises * 262143 ≡ stepField last next)
-step-is last next rises twice a b u t = go (decLe last next)
-  where
-    go : Dec (last ≤ next) → (rises * twice ≤ 262144) × (twice + rises * 262143 ≤ 131071 + rises * twice * 2) × (131071 + rises * twice * 2 - twice - rises * 262143 ≡ stepField last next)
-    go (yes h) =
-        let o : rises ≡ 1 = omega arith in
-        let p : rises * twice ≡ twice = ap (λ (x : ℕ). x * twice) o ∙ omega arith in
-        (omega arith, omega arith, omega (arith, step-up last next h))
-    go (no h) =
-        let o : rises ≡ 0 = omega arith in
-        let p : rises * twice ≡ 0 = ap (λ (x : ℕ). x * twice) o ∙ omega arith in
-        (omega arith, omega arith, omega (arith, step-down last next (omega arith)))
-
 -- ---- words
 
 pub words-bits : (l : List ℕ) → bits (wordFields l) ≡ 32 * length l

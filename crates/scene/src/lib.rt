@@ -133,18 +133,18 @@ fn draw_cube(
     match payload::cubemap_lengths(cells, radius, share) {
         GridLengths::Declined(k) => SceneAnswer::Declined(k),
         GridLengths::Lengths {
-            numbers: n,
-            floats: f,
+            numbers: indices,
+            floats: words,
         } => {
             let lengths = Lengths {
-                numbers: n,
-                floats: f,
+                numbers: indices,
+                floats: words,
                 records: 0,
             };
-            if numbers.len() < n {
+            if numbers.len() < indices {
                 return SceneAnswer::Needs(lengths);
             }
-            if floats.len() < f {
+            if floats.len() < words {
                 return SceneAnswer::Needs(lengths);
             }
             payload::cubemap_indices(cells, numbers);

@@ -10,6 +10,7 @@ mod mesh_box;
 mod mesh_lists;
 mod meshes;
 mod random;
+mod scene;
 mod timing;
 mod writer;
 
@@ -28,9 +29,15 @@ fn main() -> ExitCode {
 
 fn run(words: &[&str]) -> Result<(), String> {
     match words {
-        [] => [fields::table, fills::table, meshes::table, writer::table]
-            .iter()
-            .try_for_each(|table| table()),
+        [] => [
+            fields::table,
+            fills::table,
+            meshes::table,
+            writer::table,
+            scene::table,
+        ]
+        .iter()
+        .try_for_each(|table| table()),
         ["once", side, list] => meshes::once(side, list),
         ["once", side, "writer", steps] => writer::once(side, steps),
         _ => Err(

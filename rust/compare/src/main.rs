@@ -33,6 +33,16 @@ mod put_word;
 mod random;
 mod run_on;
 mod scale;
+mod scene;
+mod scene_calls;
+mod scene_crops;
+mod scene_cubes;
+mod scene_faults;
+mod scene_list_faults;
+mod scene_lists;
+mod scene_model;
+mod scene_numbers;
+mod scene_payloads;
 mod shares;
 mod sphere;
 mod stepped;
@@ -50,7 +60,7 @@ use tally::Tally;
 
 type Subject = (&'static str, fn(&Options) -> Vec<Tally>);
 
-const SUBJECTS: [Subject; 23] = [
+const SUBJECTS: [Subject; 24] = [
     ("zigzag", zigzag::run),
     ("bit_width", bit_width::run),
     ("nearest", nearest::run),
@@ -72,6 +82,7 @@ const SUBJECTS: [Subject; 23] = [
     ("mesh", mesh::run),
     ("meshes", meshes::run),
     ("mesh_writer", mesh_writer::run),
+    ("scene", scene::run),
     ("counts", counts::run),
     ("view", view::run),
 ];

@@ -57,7 +57,7 @@ impl Calls {
     }
 
     /// One call on buffers of these lengths. A refusal leaves all three as they were.
-    fn on(&mut self, call: Call, due: &Due, lent: [usize; 3]) {
+    pub fn on(&mut self, call: Call, due: &Due, lent: [usize; 3]) {
         let (answer, drawn) = match due {
             Err(refusal) => (Answer::refused(*refusal), None),
             Ok(scene) if !fits(scene.lengths(), lent) => {

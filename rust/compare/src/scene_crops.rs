@@ -8,11 +8,11 @@ use crate::payloads::{cuts, damaged};
 use crate::random::Random;
 use crate::scene_calls::Calls;
 use crate::scene_model::Call;
-use crate::scene_numbers::{any_given, LARGE_GRIDS};
+use crate::scene_numbers::{any_given, LARGE_GRIDS, THIN_GRIDS, TOO_LARGE_GRIDS};
 use crate::scene_payloads::dressed;
 use crate::tally::Tally;
 
-const RANDOM: usize = 3000;
+const RANDOM: usize = 16_000;
 const QUARTER: u32 = 0x4000_0000;
 const HALF: u32 = 0x8000_0000;
 /// The largest field that is still below 1 as a float, and the smallest that is not.
@@ -91,10 +91,12 @@ fn small_grids(calls: &mut Calls) {
     }
 }
 
+/// All crops on grids around the most vertices.
 fn large_grids(calls: &mut Calls) {
-    for grid in LARGE_GRIDS {
-        for fields in USABLE[..4].iter().chain(&UNUSABLE[..5]) {
-            let payload = dressed(&mut calls.random, &payload(*fields));
+    let refused = TOO_LARGE_GRIDS.into_iter().chain(THIN_GRIDS);
+    for grid in LARGE_GRIDS.into_iter().chain(refused) {
+        for fields in USABLE.into_iter().chain(UNUSABLE) {
+            let payload = dressed(&mut calls.random, &payload(fields));
             let given = given(&mut calls.random, grid);
             calls.some(call(&payload, given));
         }
@@ -132,7 +134,8 @@ fn random_calls(calls: &mut Calls) {
         _ => random_fields(random),
     };
     let whole = dressed(random, &payload(fields));
-    let grid = (random.below(14) as u32, random.below(14) as u32);
+    let most = random.pick(&[4, 8, 8, 14, 14, 90]);
+    let grid = (random.below(most) as u32, random.below(most) as u32);
     let given = given(random, grid);
     let damaged = damaged(random, &whole);
     calls.some(call(&whole, given));

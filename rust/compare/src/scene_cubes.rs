@@ -8,20 +8,19 @@ use crate::payloads::{cuts, damaged};
 use crate::random::Random;
 use crate::scene_calls::Calls;
 use crate::scene_model::Call;
-use crate::scene_numbers::{
-    any_given, any_radius, faces, FEW_CELLS, MANY_CELLS, PADDINGS, RADII,
-};
+use crate::scene_numbers::{any_given, any_radius, faces, FEW_CELLS, MANY_CELLS, PADDINGS, RADII};
 use crate::scene_payloads::dressed;
 use crate::shares::{faces_around, MOST_PADDING};
 use crate::tally::Tally;
 
-const RANDOM: usize = 3000;
+const RANDOM: usize = 16_000;
 
 pub fn run(options: &Options, times: usize) -> Tally {
     let what = "against mesh::parse_cbmp, pano::cubemap_indices and pano::cubemap_mesh with p / F";
     let mut calls = Calls::new(options, "scene kind 1", what);
     few_cells(&mut calls);
     many_cells(&mut calls);
+    all_cells(&mut calls);
     halves(&mut calls);
     first_fields(&mut calls);
     short_payloads(&mut calls);
@@ -92,7 +91,18 @@ fn many_cells(calls: &mut Calls) {
     }
 }
 
-/// Every padding with widths of a face around twice it.
+/// Every number of cells that is usable, with any padding that is.
+fn all_cells(calls: &mut Calls) {
+    for cells in 1..=103 {
+        let random = &mut calls.random;
+        let padding = random.below(MOST_PADDING as usize + 1) as u32;
+        let payload = padded(random, padding);
+        let given = given(random, cells, 0.1, 2 * padding + 1);
+        calls.some(call(&payload, given));
+    }
+}
+
+/// Some paddings with widths of a face around twice it.
 fn halves(calls: &mut Calls) {
     for padding in (0..=MOST_PADDING).step_by(13).chain([MOST_PADDING]) {
         for face in faces_around(padding) {

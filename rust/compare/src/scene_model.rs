@@ -15,7 +15,7 @@ use crate::payloads::{LONGEST, TOO_LONG};
 use crate::shares::MOST_FACE;
 use crate::sphere::{grid_usable, uvs_of, GRID};
 
-pub const KIND: i64 = 1;
+const KIND: i64 = 1;
 
 #[derive(Clone, Copy)]
 pub struct Call<'a> {

@@ -4,28 +4,31 @@ use probe_sys::Given;
 
 use crate::random::Random;
 
-/// Rings and sectors: the largest grids on all sides of their limit, and some whose vertices come
-/// to few in 32 or in 64 bits.
-pub const LARGE_GRIDS: [(u32, u32); 21] = [
-    (255, 255),
+/// Numbers of no kind, some of which are one in 8 bits.
+pub const OTHER_KINDS: [u32; 9] = [3, 4, 5, 255, 256, 257, 258, 0x8000_0000, u32::MAX];
+/// Rings and sectors of the largest grids.
+pub const LARGE_GRIDS: [(u32, u32); 4] = [(255, 255), (2, 21_844), (3, 16_383), (16_383, 3)];
+/// Larger ones. The vertices of some come to few in 32 or in 64 bits.
+pub const TOO_LARGE_GRIDS: [(u32, u32); 12] = [
     (255, 256),
     (256, 255),
-    (2, 21_844),
     (2, 21_845),
-    (3, 16_383),
     (3, 16_384),
-    (16_383, 3),
     (16_384, 3),
-    (21_844, 2),
-    (1, 32_767),
-    (0, 65_535),
     (65_535, 65_535),
+    (0x3FFF_FFFF, 3),
     (0x7FFF_FFFF, 0x7FFF_FFFF),
     (2, u32::MAX),
     (3, u32::MAX - 1),
     (u32::MAX, 3),
     (u32::MAX, u32::MAX),
-    (0x5555_5555, 3),
+];
+/// Grids with too few rings or sectors.
+pub const THIN_GRIDS: [(u32, u32); 6] = [
+    (21_844, 2),
+    (1, 32_767),
+    (0, 65_535),
+    (65_535, 0),
     (u32::MAX, 2),
     (1, u32::MAX),
 ];
@@ -61,15 +64,10 @@ pub const RADII: [f32; 17] = [
     f32::INFINITY,
     f32::NEG_INFINITY,
 ];
+/// So many of these are finite, the first ones.
+pub const FINITE_RADII: usize = 12;
 const LEAST: f32 = f32::from_bits(1);
 const SIGNALLING: f32 = f32::from_bits(0x7F80_0001);
-pub const BAD_RADII: [f32; 5] = [
-    f32::NAN,
-    -f32::NAN,
-    SIGNALLING,
-    f32::INFINITY,
-    f32::NEG_INFINITY,
-];
 pub const PADDINGS: [u32; 11] = [
     0,
     1,
@@ -119,7 +117,7 @@ pub fn small_given(random: &mut Random) -> Given {
         rings: 2 + random.below(4) as u32,
         sectors: 3 + random.below(4) as u32,
         cells: 1 + random.below(3) as u32,
-        radius: random.pick(&RADII[..12]),
+        radius: random.pick(&RADII[..FINITE_RADII]),
         face_width: 8193 + random.below(8192) as u32,
     }
 }

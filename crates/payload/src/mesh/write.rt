@@ -18,15 +18,16 @@ ghost use Rattle.payload.specs.MeshWrite.{stepField, wordFields, runFiel
 ghost use Rattle.payload.specs.Writing.{Ready, Advances, zeros, restFields, rowsFit};
 
 // The field that takes a running number from last to next: twice the step up, or twice the step down less 1.
-// There is no branch, since a step's direction is hard to foresee.
+// Both ways are so short that the machine works out both and takes one: a jump would be hard to foresee.
 fn step_field(last: u16, next: u16) -> u32
     ensures { λ r. ⌜ r ≡ stepField last next ⌝ }
 {
-    // 2^16 above the step, so that no number is below 0; up is 1 for a step up and 0 for a step down
-    let step = next as u32 + 0x1_0000 - last as u32;
-    let up = step / 0x1_0000;
-    let twice = step * 2;
-    0x1_FFFF + up * twice * 2 - twice - up * 0x3_FFFF
+    let a = last as u32;
+    let b = next as u32;
+    if b < a {
+        return 2 * (a - b) - 1;
+    }
+    2 * (b - a)
 }
 
 // Words of 32 bits.

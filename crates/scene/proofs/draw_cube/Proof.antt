@@ -14,18 +14,18 @@ cubemap-lengths-requires c κs = search needs
 enum-known-k : tie.Need-enum-known-k
 enum-known-k c = search needs
 
-enum-known-n : tie.Need-enum-known-n
-enum-known-n c = search needs
+enum-known-indices : tie.Need-enum-known-indices
+enum-known-indices c = search needs
 
 returns : tie.Need-returns
 returns c =
     let a = c .before .before .before .before .before .before .before .args in
-    grid-numbers (padding (a .pixels)) (cubeNumbers (a .cells)) (cubeFloats (a .cells) (a .radius) (a .share)) (a .numbers .now) (a .floats .now) _ _ (both (cubeNumbers (a .cells)) (cubeFloats (a .cells) (a .radius) (a .share)) _ _ (sym (ap lengthsSaid (c .before .before .n .given .1)) ∙ c .before .before .before .before .cubemap-lengths .ensures)) (c .if1 .taken)
+    grid-numbers (padding (a .pixels)) (cubeNumbers (a .cells)) (cubeFloats (a .cells) (a .radius) (a .share)) (a .numbers .now) (a .floats .now) _ _ (both (cubeNumbers (a .cells)) (cubeFloats (a .cells) (a .radius) (a .share)) _ _ (sym (ap lengthsSaid (c .before .before .indices .given .1)) ∙ c .before .before .before .before .cubemap-lengths .ensures)) (c .if1 .taken)
 
 returns-2 : tie.Need-returns-2
 returns-2 c =
     let a = c .before .before .before .before .before .before .before .before .args in
-    grid-floats (padding (a .pixels)) (cubeNumbers (a .cells)) (cubeFloats (a .cells) (a .radius) (a .share)) (a .numbers .now) (a .floats .now) _ _ (both (cubeNumbers (a .cells)) (cubeFloats (a .cells) (a .radius) (a .share)) _ _ (sym (ap lengthsSaid (c .before .before .before .n .given .1)) ∙ c .before .before .before .before .before .cubemap-lengths .ensures)) (c .if2 .taken)
+    grid-floats (padding (a .pixels)) (cubeNumbers (a .cells)) (cubeFloats (a .cells) (a .radius) (a .share)) (a .numbers .now) (a .floats .now) _ _ (both (cubeNumbers (a .cells)) (cubeFloats (a .cells) (a .radius) (a .share)) _ _ (sym (ap lengthsSaid (c .before .before .before .indices .given .1)) ∙ c .before .before .before .before .before .cubemap-lengths .ensures)) (c .if2 .taken)
 
 cubemap-indices-requires : tie.Need-cubemap-indices-requires
 cubemap-indices-requires c κs = search needs
@@ -47,7 +47,7 @@ same-length-2 c = search needs
 returns-4 : tie.Need-returns-4
 returns-4 c =
     let a = c .before .before .before .before .before .before .before .before .before .before .before .before .before .before .before .before .args in
-    grid-drawn (padding (a .pixels)) (cubeNumbers (a .cells)) (cubeFloats (a .cells) (a .radius) (a .share)) (a .numbers .now) (a .floats .now) _ _ (both (cubeNumbers (a .cells)) (cubeFloats (a .cells) (a .radius) (a .share)) _ _ (sym (ap lengthsSaid (c .before .before .before .before .before .before .before .before .before .before .before .n .given .1)) ∙ c .before .before .before .before .before .before .before .before .before .before .before .before .before .cubemap-lengths .ensures)) (c .before .before .before .before .before .before .before .before .before .if1 .left) (c .before .before .before .before .before .before .before .before .if2 .left) _ _ (c .before .before .before .before .before .before .cubemap-indices .ensures .1) (c .before .before .cubemap-mesh .ensures .1)
+    grid-drawn (padding (a .pixels)) (cubeNumbers (a .cells)) (cubeFloats (a .cells) (a .radius) (a .share)) (a .numbers .now) (a .floats .now) _ _ (both (cubeNumbers (a .cells)) (cubeFloats (a .cells) (a .radius) (a .share)) _ _ (sym (ap lengthsSaid (c .before .before .before .before .before .before .before .before .before .before .before .indices .given .1)) ∙ c .before .before .before .before .before .before .before .before .before .before .before .before .before .cubemap-lengths .ensures)) (c .before .before .before .before .before .before .before .before .before .if1 .left) (c .before .before .before .before .before .before .before .before .if2 .left) _ _ (c .before .before .before .before .before .before .cubemap-indices .ensures .1) (c .before .before .cubemap-mesh .ensures .1)
 
 pub draw-cube-spec : {M : Type 1} → statement M
 draw-cube-spec =
@@ -55,7 +55,7 @@ draw-cube-spec =
     (tie.spec
     cubemap-lengths-requires
     enum-known-k
-    enum-known-n
+    enum-known-indices
     returns
     returns-2
     cubemap-indices-requires

@@ -1,53 +1,28 @@
--- `step_field` meets its contract. Assumes nothing.
-use mathlib.Core.Path.{refl}
-use Prim.Native.Nat.{_-_}
-use native.Mathlib.Omega.{arith}
+-- `step_field` meets its contract, up and down. Assumes nothing.
+use mathlib.Core.Path.{sym}
 use borrow.Author.Needs.{needs}
-use Rattle.payload.proofs.MeshWriteLaws.{step-is}
+use Rattle.payload.proofs.MeshWriteLaws.{step-up, step-down}
 use Rattle.payload.proofs.mesh.write.step_field.Statement.{statement}
 use Rattle.payload.proofs.mesh.write.step_field.Tie as tie
 
-add-step : tie.Need-add-step
-add-step c = search needs
-
-sub-step : tie.Need-sub-step
-sub-step c = search needs
-
-mul-twice : tie.Need-mul-twice
-mul-twice c = search needs
+sub-result : tie.Need-sub-result
+sub-result c = search needs
 
 mul-result : tie.Need-mul-result
-mul-result c = let s = step-is (c .args .last) (c .args .next) _ _ (omega arith) (omega arith) refl refl in omega arith
-
-mul-result-2 : tie.Need-mul-result-2
-mul-result-2 c = let s = step-is (c .args .last) (c .args .next) _ _ (omega arith) (omega arith) refl refl in omega arith
-
-add-result : tie.Need-add-result
-add-result c = let s = step-is (c .args .last) (c .args .next) _ _ (omega arith) (omega arith) refl refl in omega arith
-
-sub-result : tie.Need-sub-result
-sub-result c = let s = step-is (c .args .last) (c .args .next) _ _ (omega arith) (omega arith) refl refl in omega arith
-
-mul-result-3 : tie.Need-mul-result-3
-mul-result-3 c = search needs
+mul-result c = search needs
 
 sub-result-2 : tie.Need-sub-result-2
-sub-result-2 c = let s = step-is (c .args .last) (c .args .next) _ _ (omega arith) (omega arith) refl refl in omega arith
+sub-result-2 c = search needs
 
 returns : tie.Need-returns
-returns c = step-is (c .args .last) (c .args .next) _ _ (omega arith) (omega arith) refl refl .2
+returns c = let a = c .before .args in sym (step-down (a .last) (a .next) (c .if1 .taken))
+
+mul-result-2 : tie.Need-mul-result-2
+mul-result-2 c = search needs
+
+returns-2 : tie.Need-returns-2
+returns-2 c = let a = c .before .args in sym (step-up (a .last) (a .next) (c .if1 .left))
 
 pub step-field-spec : {M : Type 1} → statement M
 step-field-spec =
-    tie.close
-    (tie.spec
-    add-step
-    sub-step
-    mul-twice
-    mul-result
-    mul-result-2
-    add-result
-    sub-result
-    mul-result-3
-    sub-result-2
-    returns)
+    tie.close (tie.spec sub-result mul-result sub-result-2 returns mul-result-2 returns-2)
