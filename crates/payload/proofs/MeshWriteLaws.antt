@@ -1,5 +1,5 @@
 -- The fields that are written stand where the layout has them, and the other way round.
-use Prim.Native.Nat.{ℕ, zero, suc, _+_, _-_, _*_, _/_, _^_, _≤_, _<_, suc-le-suc}
+use Prim.Native.Nat.{ℕ, zero, suc, _+_, _-_, _*_, _/_, _%_, _^_, _≤_, _<_, suc-le-suc}
 use mathlib.Core.Path.{_≡_, refl, sym, ap, ap₂, _∙_, subst}
 use mathlib.Core.List.{List, [], _∷_, _++_}
 use native.Mathlib.Omega.{arith}
@@ -75,6 +75,19 @@ step-fits n last next hl hn = go (decLe last next)
     go : Dec (last ≤ next) → stepField last next < 2 * n
     go (yes h) = omega (arith, step-up last next h)
     go (no h) = omega (arith, step-down last next (omega arith))
+
+-- twice the step, modulo 2^32, or its complement
+pub step-least : (last next twice : ℕ) → last < 65536 → next < 65536 → twice ≤ 4294967295 → (twice + 2 * last) % 4294967296 ≡ 2 * next
+    → (4294967295 - twice < twice → 4294967295 - twice ≡ stepField last next) × (twice ≤ 4294967295 - twice → twice ≡ stepField last next)
+step-least last next twice a b c e = go (decLe last next)
+  where
+    go : Dec (last ≤ next) → (4294967295 - twice < twice → 4294967295 - twice ≡ stepField last next) × (twice ≤ 4294967295 - twice → twice ≡ stepField last next)
+    go (yes h) = (λ l. omega (arith, step-up last next h), λ l. omega (arith, step-up last next h))
+    go (no h) =
+        let d : next < last = omega arith in
+        let q : (twice + 2 * last) / 4294967296 ≡ 1 = omega arith in
+        let m : twice + 2 * last ≡ 4294967296 + 2 * next = omega arith in
+        (λ l. omega (arith, step-down last next d), λ l. absurd (omega arith))
 
 -- ---- words
 

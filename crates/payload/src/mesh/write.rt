@@ -18,16 +18,16 @@ ghost use Rattle.payload.specs.MeshWrite.{stepField, wordFields, runFiel
 ghost use Rattle.payload.specs.Writing.{Ready, Advances, zeros, restFields, rowsFit};
 
 // The field that takes a running number from last to next: twice the step up, or twice the step down less 1.
-// Both ways are so short that the machine works out both and takes one: a jump would be hard to foresee.
+// That is the lesser of twice the step, modulo 2^32, and its complement. It becomes code without a branch: a step's direction is hard to foresee.
 fn step_field(last: u16, next: u16) -> u32
     ensures { λ r. ⌜ r ≡ stepField last next ⌝ }
 {
-    let a = last as u32;
-    let b = next as u32;
-    if b < a {
-        return 2 * (a - b) - 1;
+    let twice = std::num::wrapping_sub_u32(2 * (next as u32), 2 * (last as u32));
+    let complement = 0xFFFF_FFFF - twice;
+    if complement < twice {
+        return complement;
     }
-    2 * (b - a)
+    twice
 }
 
 // Words of 32 bits.
