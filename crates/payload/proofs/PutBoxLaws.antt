@@ -15,7 +15,7 @@ use Rattle.payload.specs.MeshSpells.{meshType}
 use Rattle.payload.specs.MeshWrite.{boxSize, gap, isMesh, meshBody, meshBox, meshFields, submeshesFields, submeshesOf, tablesMesh, vertexFields}
 use Rattle.payload.specs.Packed.{Field, bits, number, packed, spare}
 use Rattle.payload.specs.Writing.{Advances, Ready, outcome, restFields}
-use Rattle.payload.specs.declared.mesh.bit_writer.BitWriter.{BitWriter}
+use Rattle.payload.specs.declared.mesh.write.BitWriter.{BitWriter}
 use Rattle.payload.proofs.BoxLaws.{mesh-fit}
 use Rattle.payload.proofs.JudgeLaws.{mesh-within, told}
 use Rattle.payload.proofs.MeshWriteLaws.{Within}

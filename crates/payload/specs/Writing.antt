@@ -12,7 +12,7 @@ use Rattle.payload.specs.Mesh.{Submesh}
 use Rattle.payload.specs.MeshSpells.{aligned, verticesAt}
 use Rattle.payload.specs.Packed.{Field, bits, packed, Fits}
 use Rattle.payload.specs.MeshWrite.{gap, submeshesFields, every, rowWithin}
-use Rattle.payload.specs.declared.mesh.bit_writer.BitWriter.{BitWriter}
+use Rattle.payload.specs.declared.mesh.write.BitWriter.{BitWriter}
 use Rattle.payload.specs.declared.mesh.judge.Judged.{Judged}
 use Rattle.payload.specs.declared.mesh.judge.Judged.the-variants as J
 

@@ -11,7 +11,6 @@ ghost use Rattle.payload.specs.Run.{readRun, five};
 ghost use Rattle.payload.specs.MeshRead.{readMesh};
 ghost use Rattle.payload.specs.Internal.{wideBits, narrowBits, queue, queueNext, AllBelow, SteppedBy, WasRead, runNumbers, HeadOf};
 
-mod bit_writer;
 mod draw;
 mod judge;
 mod measure;

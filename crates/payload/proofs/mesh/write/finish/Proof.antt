@@ -3,8 +3,8 @@ use mathlib.Core.Path.{_∙_}
 use Prim.Native.Nat.{_-_}
 use borrow.Author.Needs.{needs}
 use Rattle.payload.proofs.WriterLaws.{finish-is}
-use Rattle.payload.proofs.mesh.bit_writer.finish.Statement.{statement}
-use Rattle.payload.proofs.mesh.bit_writer.finish.Tie as tie
+use Rattle.payload.proofs.mesh.write.finish.Statement.{statement}
+use Rattle.payload.proofs.mesh.write.finish.Tie as tie
 
 mul-put-field : tie.Need-mul-put-field
 mul-put-field c = search needs

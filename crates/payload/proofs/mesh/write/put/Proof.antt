@@ -4,8 +4,8 @@ use Prim.Native.Nat.{_+_, _-_}
 use native.Mathlib.Omega.{arith}
 use borrow.Author.Needs.{needs}
 use Rattle.payload.proofs.WriterLaws.{put-goes, put-room, put-waits}
-use Rattle.payload.proofs.mesh.bit_writer.put.Statement.{statement}
-use Rattle.payload.proofs.mesh.bit_writer.put.Tie as tie
+use Rattle.payload.proofs.mesh.write.put.Statement.{statement}
+use Rattle.payload.proofs.mesh.write.put.Tie as tie
 
 add-all : tie.Need-add-all
 add-all c = search needs

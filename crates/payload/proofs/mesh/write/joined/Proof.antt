@@ -2,8 +2,8 @@
 use Prim.Native.Nat.{_-_}
 use borrow.Author.Needs.{needs}
 use Rattle.payload.proofs.WriterLaws.{joined-fits, joined-is}
-use Rattle.payload.proofs.mesh.bit_writer.joined.Statement.{statement}
-use Rattle.payload.proofs.mesh.bit_writer.joined.Tie as tie
+use Rattle.payload.proofs.mesh.write.joined.Statement.{statement}
+use Rattle.payload.proofs.mesh.write.joined.Tie as tie
 
 shl-result : tie.Need-shl-result
 shl-result c = search needs

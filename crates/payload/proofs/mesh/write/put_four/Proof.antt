@@ -4,8 +4,8 @@ use native.Mathlib.Omega.{arith}
 use borrow.Author.Needs.{needs}
 use lib.ListN.{length-set}
 use Rattle.payload.proofs.WriterLaws.{put-four-sets}
-use Rattle.payload.proofs.mesh.bit_writer.put_four.Statement.{statement}
-use Rattle.payload.proofs.mesh.bit_writer.put_four.Tie as tie
+use Rattle.payload.proofs.mesh.write.put_four.Statement.{statement}
+use Rattle.payload.proofs.mesh.write.put_four.Tie as tie
 
 cast-out : tie.Need-cast-out
 cast-out c = search needs
