@@ -1,17 +1,19 @@
--- Kind 2 is read exactly where it is spelled. Assumes nothing.
+-- Kind 2, and a mesh body alone, are read exactly where they are spelled. Assumes nothing.
 use Prim.Native.Nat.{ℕ, zero, suc, _+_, _*_, _≤_, _<_}
-use mathlib.Core.Path.{_≡_, sym, _∙_}
+use mathlib.Core.Path.{_≡_, sym, ap, _∙_}
 use mathlib.Core.List.{List, [], _∷_}
-use mathlib.Core.Logic.{_↔_}
+use mathlib.Core.Logic.{_↔_, _⊎_, inl, inr}
 use native.Mathlib.Omega.{arith}
 use native.Mathlib.Decide.{ℕ-discrete}
 use lib.ListN.{length}
-use Rattle.bits.specs.Verdict.{Verdict, accepted, andThen}
-use Rattle.bits.proofs.VerdictLaws.{then-yes, then-value}
+use Rattle.bits.specs.Verdict.{Verdict, accepted, andThen, mapped}
+use Rattle.bits.proofs.VerdictLaws.{le-or-lt, then-yes, then-value, mapped-value}
 use Rattle.payload.specs.Mesh.{Mesh}
 use Rattle.payload.specs.MeshSpells.{sizeAt, typeAt, meshType, part, WholeBox, BoxesSpell, ends, holds, skips, MeshesSpell}
 use Rattle.payload.specs.MeshRead.{readMesh, readFrom, readMeshes}
-use Rattle.payload.specs.Laws.{MeshesReads}
+use Rattle.payload.specs.Tables.{bodyRead}
+use Rattle.payload.specs.Laws.{MeshesReads, BodySpells, MeshReads}
+use Rattle.payload.proofs.PayloadLaws.{limited-yes, limited-no}
 use Rattle.payload.proofs.ReadLaws.{reads-laws}
 use Rattle.payload.proofs.MeshReadLaws.{mesh-spells, spells-mesh, Way, over, small, past, whole, way, from-end, from-small, from-past, from-mesh, from-other}
 
@@ -54,3 +56,20 @@ both l s = (boxes-spell s (suc (length s)) 0 l (omega arith) (omega arith), spel
 
 pub meshes-reads : MeshesReads
 meshes-reads = reads-laws readMeshes both
+
+-- ---- a mesh body alone
+
+body-both : (x : Mesh) (s : List ℕ) → (bodyRead s ≡ accepted x) ↔ BodySpells x s
+body-both x s = (λ e. go (le-or-lt (length s) 67108864) e, λ b. back (b .0) (spells-mesh s x (b .1)))
+  where
+    go : (length s ≤ 67108864) ⊎ (67108864 < length s) → bodyRead s ≡ accepted x → BodySpells x s
+    go (inl l) e =
+        let m = mapped-value (λ (y : Mesh × ℕ). y .0) (readMesh s) x (sym (sym (limited-yes s (mapped (λ (y : Mesh × ℕ). y .0) (readMesh s)) l) ∙ e)) in
+        (l, rw (m .2) at (mesh-spells s (m .0 .0) (m .0 .1) (m .1)))
+    go (inr l) e = absurd (let d = limited-no s (mapped (λ (y : Mesh × ℕ). y .0) (readMesh s)) l in let z : _≡_ {A = ℕ} 0 1 = cc in omega arith)
+
+    back : length s ≤ 67108864 → (q : ℕ) × (readMesh s ≡ accepted (x, q)) → bodyRead s ≡ accepted x
+    back l (q, e) = limited-yes s (mapped (λ (y : Mesh × ℕ). y .0) (readMesh s)) l ∙ ap (mapped (λ (y : Mesh × ℕ). y .0)) e
+
+pub mesh-reads : MeshReads
+mesh-reads = reads-laws bodyRead body-both

@@ -16,7 +16,7 @@ use Rattle.payload.specs.MeshSpells.{MeshSpells, MeshesSpell, SubmeshesS
 use Rattle.payload.specs.MeshWrite.{boxSize, isMesh, meshBody, meshBox, rowWithin, submeshesOf, tablesMesh}
 use Rattle.payload.specs.Tables.{allPoints, coordinateTable, pointTable, poolTable, submeshRows, submeshTable}
 use Rattle.payload.specs.Writing.{rowFits, rowsFit}
-use Rattle.payload.proofs.BoxLaws.{body-length, body-spells, box-body, box-spells, plain-body, plain-box, plain-size}
+use Rattle.payload.proofs.BoxLaws.{box-length, body-length, body-spells, box-body, box-spells, plain-body, plain-box, plain-size}
 use Rattle.payload.proofs.JudgeLaws.{mesh-within, passes, told, under-below, written-value, written-yes}
 use Rattle.payload.proofs.MeshReadLaws.{spells-mesh}
 use Rattle.payload.proofs.MeshTheorems.{meshes-reads}
@@ -150,6 +150,8 @@ tables-read pool coordinates rows points s w e =
     let d : drop 8 s ≡ meshBody (tablesMesh pool coordinates rows points) = ap (drop 8) (v .1) ∙ box-body (tablesMesh pool coordinates rows points) in
     record {
       mesh = tablesMesh pool coordinates rows points;
+      size = rw (v .1) (omega (arith, box-length (tablesMesh pool coordinates rows points), t .size));
+      spells = rw (v .1) (box-spells (tablesMesh pool coordinates rows points) h);
       box-reads = rw (v .1) (meshes-reads .reads (tablesMesh pool coordinates rows points ∷ []) (meshBox (tablesMesh pool coordinates rows points)) .1 (box-spells (tablesMesh pool coordinates rows points) h));
       body-reads = rw d (limited-yes (meshBody (tablesMesh pool coordinates rows points)) _ l ∙ ap (mapped (λ y. y .0)) (f .1));
       pool-same = refl;

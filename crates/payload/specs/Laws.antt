@@ -10,7 +10,7 @@ use Rattle.bits.specs.Laws.{Bytes}
 use Rattle.payload.specs.Equi.{EquiSpells, equiRead, equiWritten}
 use Rattle.payload.specs.Cbmp.{CbmpSpells, cbmpRead, cbmpWritten}
 use Rattle.payload.specs.Mesh.{Mesh}
-use Rattle.payload.specs.MeshSpells.{verticesEnd, submeshesAt, submeshesEnd, sizeAt, MeshesSpell}
+use Rattle.payload.specs.MeshSpells.{verticesEnd, submeshesAt, submeshesEnd, MeshSpells, sizeAt, MeshesSpell}
 use Rattle.payload.specs.MeshRead.{readMeshes}
 use Rattle.payload.specs.Tables.{poolTable, coordinateTable, submeshTable, pointTable, bodyRead}
 use Rattle.payload.specs.MeshWrite.{meshWritten}
@@ -68,6 +68,13 @@ CbmpWrites = Writes ℕ CbmpSpells (λ p s. cbmpRead s ≡ accepted p) (λ p. p 
 abbrev pub MeshesReads : Type 0
 MeshesReads = Reads (List Mesh) MeshesSpell readMeshes
 
+-- a mesh body, as `parse_mesh` reads it: within the limit, and spelled
+abbrev pub BodySpells : Mesh → List ℕ → Type 0
+BodySpells x s = (length s ≤ 67108864) × MeshSpells s x
+
+abbrev pub MeshReads : Type 0
+MeshReads = Reads Mesh BodySpells bodyRead
+
 -- each word a u32
 abbrev pub Words32 : List ℕ → Type 0
 Words32 l = (i : ℕ) → getD l i 0 < 2 ^ 32
@@ -92,6 +99,8 @@ MeshWrites = Writes Mesh (λ x s. MeshesSpell (x ∷ []) s) (λ x s. readMeshes 
 -- what was written of four tables reads back as these tables: the box as a list of one mesh, and its body alone
 pub record TablesBack (pool coordinates rows points s : List ℕ) : Type 0 where
   pub mesh : Mesh
+  pub size : length s ≤ 67108864
+  pub spells : MeshesSpell (mesh ∷ []) s
   pub box-reads : readMeshes s ≡ accepted (mesh ∷ [])
   pub body-reads : bodyRead (drop 8 s) ≡ accepted mesh
   pub pool-same : poolTable mesh ≡ pool
