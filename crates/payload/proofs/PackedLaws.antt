@@ -20,11 +20,6 @@ unfolding bits
 bits-append [] b = omega arith
 bits-append ((w, v) ∷ a) b = ap (λ (n : ℕ). w + n) (bits-append a b) ∙ sym (add-assoc w (bits a) (bits b))
 
-pub number-append : (n : ℕ) (a b : List Field) → number n (a ++ b) ≡ number (number n a) b
-unfolding number
-number-append n [] b = refl
-number-append n ((w, v) ∷ a) b = number-append (n * 2 ^ w + v) a b
-
 pub fits-append : (a b : List Field) → Fits a → Fits b → Fits (a ++ b)
 fits-append [] b f g = g
 fits-append (x ∷ a) b f g = (f .0, fits-append a b (f .1) g)
@@ -92,10 +87,6 @@ number-laid s p n ((w, v) ∷ l) f e =
 pub packed-length : (l : List Field) → length (packed l) ≡ (bits l + 7) / 8
 unfolding packed
 packed-length l = length-bytes _ _
-
-pub packed-byte : (l : List Field) (k : ℕ) → getD (packed l) k 0 < 256
-unfolding packed
-packed-byte l k = bytes-lt _ _ k
 
 whole : (n : ℕ) → 8 * ((n + 7) / 8) ≡ n + spare n
 whole n = omega arith
@@ -192,20 +183,3 @@ packed-out k a b l h i f =
         ∙ ap (λ (z : ℕ). z * 2 ^ r) (add-assoc (b * 2 ^ (k + B)) (a * 2 ^ B) N)
         ∙ add-mul (b * 2 ^ (k + B)) (a * 2 ^ B + N) (2 ^ r)
         ∙ ap (λ (z : ℕ). z + (a * 2 ^ B + N) * 2 ^ r) (mul-assoc b (2 ^ (k + B)) (2 ^ r) ∙ ap (λ (z : ℕ). b * z) (sym (pow-add 2 (k + B) r)))
-
--- at the end zero bits fill the last byte
-pub packed-fill : (k a : ℕ) → packed ((k, a) ∷ []) ≡ packed ((k + spare k, a * 2 ^ spare k) ∷ [])
-unfolding packed bits number
-packed-fill k a =
-    let u : ℕ = k + spare k + 0 in
-    let b : k + 0 ≡ k = omega arith in
-    let c : (u + 7) / 8 ≡ (k + 7) / 8 = omega arith in
-    let d : spare u ≡ 0 = omega arith in
-    let y : 0 * 2 ^ k + a ≡ a = omega arith in
-    let z : 0 * 2 ^ (k + spare k) + a * 2 ^ spare k ≡ a * 2 ^ spare k = omega arith in
-    ap₂ (λ (m n : ℕ). bytesOf ((m + 7) / 8) (n * 2 ^ spare m)) b y
-    ∙ sym (ap₂ (λ (m n : ℕ). bytesOf m (n * 2 ^ spare u)) c z ∙ ap (λ (n : ℕ). bytesOf ((k + 7) / 8) (a * 2 ^ spare k * 2 ^ n)) d ∙ ap (bytesOf ((k + 7) / 8)) (mul-one (a * 2 ^ spare k)))
-
-pub packed-none : (a : ℕ) → packed ((0, a) ∷ []) ≡ []
-unfolding packed bits number bytesOf
-packed-none a = refl

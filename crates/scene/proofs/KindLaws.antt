@@ -31,8 +31,8 @@ use Rattle.payload.proofs.EquiLaws.{equi-reads, fields-refusal}
 use Rattle.payload.proofs.CbmpLaws.{cbmp-reads}
 use Rattle.payload.proofs.ShareProofs.{share-laws}
 use Rattle.payload.proofs.MeshTheorems.{meshes-reads}
-use Rattle.scene.specs.Scene.{Kind, equi, cbmp, mesh, Reading, Spells, Given, given, GridLimits, CubeLimits, InLimits, Drawable, Named, crop, padding, Drawing, drawing, nameOf, faceShare, readEqui, cubeUsable, readCbmp, readKind, foundAs, fits, lengthsOf, threeOf, fittedAnswer, drawnPart}
-use Rattle.scene.specs.Internal.{gridFound, afterGrid, meshesAs}
+use Rattle.scene.specs.Scene.{Kind, equi, cbmp, mesh, Reading, Spells, Given, given, GridLimits, CubeLimits, InLimits, Drawable, Named, crop, padding, Drawing, drawing, nameOf, readEqui, cubeUsable, readCbmp, readKind, foundAs, fits, lengthsOf, threeOf, fittedAnswer, drawnPart}
+use Rattle.scene.specs.Internal.{gridFound, afterGrid, meshesAs, faceShare}
 use Rattle.scene.proofs.FitLaws.{NoRecords}
 
 -- ---- drawings of kinds 0 and 1 have no records
@@ -150,22 +150,13 @@ module _ (cells : ℕ) (radius : Float) (F : ℕ) where
       inner true false share e = refl
       inner false b share e = refl
 
-      odd : (c b : Bool) (share : Float) → b ≡ false
-          → gridFound (padding p) (cond c (accepted (cubeTriangles cells)) (declined 9)) (cond c (cond b (accepted (cubePoints cells radius share)) (declined 11)) (declined 9))
-          ≡ mapped {B = Named × Drawing} (λ p. (nameOf cbmp p, drawing cbmp (given 0 0 cells radius F) p)) (cond c (cond b (accepted p) (declined 11)) (declined 9))
-      odd true true share e = absurd (let z : _≡_ {A = ℕ} 0 1 = cc in omega arith)
-      odd true false share e = refl
-      odd false b share e = refl
-
-      never : (r : Bool) → (r && shareUsable f1) ≡ false
-      never true = one-unusable
-      never false = refl
-
       go : (c w r : Bool)
           → gridFound (padding p) (cond c (accepted (cubeTriangles cells)) (declined 9)) (cond c (cond (r && shareUsable (cond w (ratio p F) f1)) (accepted (cubePoints cells radius (cond w (ratio p F) f1))) (declined 11)) (declined 9))
-          ≡ mapped {B = Named × Drawing} (λ p. (nameOf cbmp p, drawing cbmp (given 0 0 cells radius F) p)) (cond c (cond (r && shareUsable (cond w (ratio p F) f1)) (accepted p) (declined 11)) (declined 9))
+          ≡ mapped {B = Named × Drawing} (λ p. (nameOf cbmp p, drawing cbmp (given 0 0 cells radius F) p)) (cond c (cond (r && (w && shareUsable (ratio p F))) (accepted p) (declined 11)) (declined 9))
       go c true r = inner c (r && shareUsable (ratio p F)) (ratio p F) refl
-      go c false r = odd c (r && shareUsable f1) f1 (never r)
+      go true false true = rw one-unusable
+      go true false false = refl
+      go false false r = refl
 
   module _ (s : List ℕ) where
     pub cbmp-found : (p : ℕ) → accepted p ≡ limited s (cbmpRead s) → gridFound (padding p) (cubeNumbers cells) (cubeFloats cells radius (faceShare p F)) ≡ foundAs cbmp (given 0 0 cells radius F) s

@@ -1,9 +1,11 @@
 -- What the private parts of the scene call go by.
 use Prim.Native.Nat.{ℕ}
 use mathlib.Core.List.{List, []}
-use mathlib.Core.Bool.{cond}
-use lib.Dec.{eqb}
+use mathlib.Core.Bool.{cond, _&&_}
+use lib.Dec.{leb, eqb}
+use lib.Ieee.{Float}
 use Rattle.bits.specs.Verdict.{Verdict, andThen, mapped}
+use Rattle.payload.specs.Float.{f1, ratio}
 use Rattle.payload.specs.Sphere.{gridUsable}
 use Rattle.payload.specs.declared.mesh.measure.MeshListSize.{MeshListSize}
 use Rattle.scene.specs.Scene.{Named, counts, Drawing}
@@ -20,3 +22,7 @@ afterGrid k rings sectors = cond (eqb k 10) (cond (gridUsable rings sectors) 10 
 -- what drawing a mesh list says, as a scene
 abbrev pub meshesAs : Verdict MeshListSize → Verdict (Named × Lengths)
 meshesAs v = mapped (λ n. (counts (n .meshes) (n .submeshes) (n .points), record { numbers = n .numbers; floats = n .floats; records = n .records })) v
+
+-- a share that is not usable where the face's width is not 1 to 16,384
+abbrev pub faceShare : ℕ → ℕ → Float
+faceShare p F = cond (leb 1 F && leb F 16384) (ratio p F) f1

@@ -8,7 +8,7 @@ use lib.ListN.{length}
 use lib.Ieee.{Float, eq}
 use lib.Ieee.Scale.{finite}
 use Rattle.bits.specs.Verdict.{Verdict, accepted, needs, declined, andThen, mapped}
-use Rattle.payload.specs.Float.{f0, f1, ratio}
+use Rattle.payload.specs.Float.{f0, ratio}
 use Rattle.payload.specs.Fill.{begun}
 use Rattle.payload.specs.Payload.{limited}
 use Rattle.payload.specs.Equi.{EquiSpells, cropOf, equiFields, equiUsable}
@@ -114,10 +114,6 @@ nameOf mesh l = counts (length l) (submeshTotal l) (pointTotal l)
 
 -- ---- reading, with the refusals of each kind in document 01's order
 
--- a share that is not below one half where the face's width is not 1 to 16,384
-abbrev pub faceShare : ℕ → ℕ → Float
-faceShare p F = cond (leb 1 F && leb F 16384) (ratio p F) f1
-
 -- kind 0: 3 and 4 in field order, 9, 10
 unfoldable pub readEqui : ℕ → ℕ → List ℕ → Verdict EquiFields
 readEqui rings sectors s = andThen (equiFields s) (λ ρ. cond (gridUsable rings sectors) (equiUsable ρ) (declined 9))
@@ -126,7 +122,7 @@ readEqui rings sectors s = andThen (equiFields s) (λ ρ. cond (gridUsable rings
 unfoldable pub cubeUsable : ℕ → Float → ℕ → ℕ → Verdict ℕ
 cubeUsable cells radius F p =
     cond (cellsUsable cells)
-    (cond (finite radius && shareUsable (faceShare p F)) (accepted p) (declined 11))
+    (cond (finite radius && ((leb 1 F && leb F 16384) && shareUsable (ratio p F))) (accepted p) (declined 11))
     (declined 9)
 
 abbrev pub readCbmp : ℕ → Float → ℕ → List ℕ → Verdict ℕ

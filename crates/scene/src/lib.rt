@@ -11,8 +11,8 @@ ghost use Rattle.payload.specs.Float.{f0};
 ghost use Rattle.payload.specs.Sphere.{sphereNumbers, sphereUvs};
 ghost use Rattle.payload.specs.Cube.{cubeNumbers, cubeFloats};
 ghost use Rattle.payload.specs.Meshes.{meshesSays};
-ghost use Rattle.scene.specs.Scene.{equi, cbmp, crop, padding, given, faceShare, foundAs, fittedAnswer, sceneAnswer, sceneSays, drawnPart, scenePart, numbersOf, floatsOf, recordsOf};
-ghost use Rattle.scene.specs.Internal.{gridFound, afterGrid, meshesAs};
+ghost use Rattle.scene.specs.Scene.{equi, cbmp, crop, padding, given, foundAs, fittedAnswer, sceneAnswer, sceneSays, drawnPart, scenePart, numbersOf, floatsOf, recordsOf};
+ghost use Rattle.scene.specs.Internal.{gridFound, afterGrid, meshesAs, faceShare};
 
 // The lengths of the three lists of a drawing.
 pub struct Lengths {
