@@ -3,6 +3,7 @@ pub mod VerdictLaws
 pub mod FieldLaws
 pub mod ByteLaws
 pub mod NumberLaws
+pub mod BelowLaws
 pub mod HeaderLaws
 pub mod PutLaws
 pub mod Marked

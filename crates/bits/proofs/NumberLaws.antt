@@ -2,15 +2,15 @@
 use Prim.Native.Nat.{ℕ, zero, suc, _+_, _-_, _*_, _/_, _%_, _^_, _≤_, _<_}
 use mathlib.Core.Path.{_≡_, refl, sym, ap, _∙_, subst}
 use mathlib.Core.Bool.{Bool, true, false}
-use mathlib.Core.Logic.{_⊎_, inl, inr, _↔_}
+use mathlib.Core.Logic.{_⊎_, inl, inr}
 use native.Mathlib.Omega.{arith}
 use native.Mathlib.Decide.{ℕ-discrete}
-use native.Mathlib.Nat.{le-of-suc-le-suc, le-refl, le-antisymm, le-trans, lt-of-not-le, not-le-of-lt, zero-add, add-suc, suc-add, two-pow-succ, zero-mul, one-mul}
-use lib.IntN.{ℤ, pos, negsuc, negℤ, subℕ, _+ℤ_}
+use native.Mathlib.Nat.{le-of-suc-le-suc, le-refl, le-antisymm, le-trans, lt-of-not-le, not-le-of-lt, zero-add, add-suc, suc-add, two-pow-succ}
+use lib.IntN.{ℤ, pos, negsuc, negℤ, _+ℤ_}
 use lib.Dec.{leb}
 use lib.Pow.{pow-mono}
 use borrow.Author.Tests.{le-leb, lt-leb, lt-ltb, le-ltb, leb-true, leb-false, eq-eqb, ne-eqb}
-use Rattle.bits.specs.Verdict.{Verdict, accepted, declined}
+use Rattle.bits.specs.Verdict.{accepted, declined}
 use Rattle.bits.specs.Number.{meaning, Moves, up, down, ranOn, below, steppedTo, leastFrom, widthOf}
 use Rattle.bits.proofs.VerdictLaws.{le-or-lt, within-yes, within-no, within-value}
 
@@ -102,6 +102,10 @@ module _ (last f : ℕ) where
   moves-ran limit next (down o q) h =
       let g : last - (f + 1) / 2 ≡ next = omega arith in
       ran-down limit o (omega arith) ∙ within-yes (last - (f + 1) / 2 + 1) limit (last - (f + 1) / 2) (declined 8) (omega arith) ∙ ap accepted g
+
+  pub moves-stepped : (next : ℕ) → Moves f last next → steppedTo last f ≡ next
+  moves-stepped next (up e q) = stepped-up e ∙ sym q
+  moves-stepped next (down o q) = let g : last - (f + 1) / 2 ≡ next = omega arith in stepped-down o (omega arith) ∙ g
 
   -- last + -(f + 1) / 2
   less : (f + 1) / 2 ≤ last → f % 2 ≡ 1 → pos last +ℤ meaning f ≡ pos (last - (f + 1) / 2)

@@ -1,10 +1,10 @@
 -- Laws of what was put into a buffer: it is read back, what stands before and after it stays, and the free bits are 0. Assumes nothing.
-use mathlib.Core.Path.{_≡_, refl, sym, ap, ap₂, _∙_, subst}
+use mathlib.Core.Path.{_≡_, sym, ap, ap₂, _∙_, subst}
 use Prim.Native.Nat.{ℕ, _+_, _-_, _*_, _/_, _%_, _^_, _≤_, _<_}
 use mathlib.Core.List.{List, _++_}
 use native.Mathlib.Omega.{arith}
-use native.Mathlib.Nat.{mod-eq-of-lt, mul-assoc, add-mul, add-assoc, mod-lt}
-use lib.ListN.{length, getD, take, drop, length-append, length-take, length-drop}
+use native.Mathlib.Nat.{mod-eq-of-lt, mul-assoc, add-mul, add-assoc}
+use lib.ListN.{length, getD, take, drop, length-append}
 use lib.Seq.{sets, sets-eq, length-sets, length-take-le, getD-append-add, getD-drop}
 use lib.Arith.{digits-lt}
 use lib.Pow.{shl-shr, shl-lt, pow-add, pow-pos, high, low}

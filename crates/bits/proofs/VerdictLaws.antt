@@ -2,7 +2,6 @@
 use mathlib.Core.Path.{_≡_, refl, sym}
 use mathlib.Core.Logic.{_⊎_, inl, inr}
 use mathlib.Core.Bool.{Bool, true, false}
-use mathlib.Core.List.{List}
 use Prim.Native.Nat.{ℕ, _≤_, _<_}
 use native.Mathlib.Omega.{arith}
 use lib.Dec.{leb}
@@ -40,14 +39,6 @@ module _ {A : Type 0} (m n : ℕ) (v : A) where
       go : (m ≤ n) ⊎ (n < m) → (n < m) × (k ≡ j)
       go (inl h) = let w = within-yes (declined k) h in let z : _≡_ {A = ℕ} 0 1 = cc in absurd (omega arith)
       go (inr h) = let w = within-no (declined k) h in (h, cc)
-
-  -- the buffer is too short: the test failed, and these are the lengths
-  pub within-needs : (l j : List ℕ) → within m n v (needs l) ≡ needs j → (n < m) × (l ≡ j)
-  within-needs l j e = go (le-or-lt m n)
-    where
-      go : (m ≤ n) ⊎ (n < m) → (n < m) × (l ≡ j)
-      go (inl h) = let w = within-yes (needs l) h in let z : _≡_ {A = ℕ} 0 1 = cc in absurd (omega arith)
-      go (inr h) = let w = within-no (needs l) h in (h, cc)
 
 -- ---- one step after another
 

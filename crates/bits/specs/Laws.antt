@@ -1,10 +1,10 @@
 -- The theorems about this crate's definitions, by name. Their proofs are in proofs/Theorems.antt and proofs/Marked.antt.
-use Prim.Native.Nat.{ℕ, _+_, _-_, _*_, _/_, _%_, _^_, _≤_, _<_}
+use Prim.Native.Nat.{ℕ, _+_, _*_, _/_, _%_, _^_, _≤_, _<_}
 use mathlib.Core.Path.{_≡_}
 use mathlib.Core.List.{List, [], _∷_, _++_, map}
 use mathlib.Core.Logic.{_↔_}
 use lib.ListN.{length, getD}
-use lib.IntN.{ℤ, pos, negsuc, _+ℤ_}
+use lib.IntN.{pos, negsuc, _+ℤ_}
 use Rattle.bits.specs.Verdict.{accepted}
 use Rattle.bits.specs.Field.{field}
 use Rattle.bits.specs.Number.{meaning, Moves, ranOn, widthOf}

@@ -1,7 +1,7 @@
 // The leaves of the writers: a word and a field put into a lent buffer.
 ghost use mathlib.Core.Path.{_≡_};
 ghost use Prim.Native.Nat.{_+_, _-_, _*_, _/_, _%_, _^_, _≤_, _<_};
-ghost use lib.ListN.{length, getD};
+ghost use lib.ListN.{length};
 ghost use lib.Seq.{sets};
 ghost use Rattle.bits.specs.Put.{bytesOf, wordPut, wordPutAnswer, fieldPut, fieldPutAnswer, putSays};
 

@@ -7,7 +7,6 @@ use lib.ListN.{length}
 use borrow.Author.Tests.{le-leb, lt-leb}
 use Rattle.bits.specs.Verdict.{Verdict, accepted, needs, declined, mapped, andThen}
 use Rattle.bits.proofs.VerdictLaws.{within-yes}
-use Rattle.payload.specs.Fill.{front}
 use Rattle.payload.specs.Payload.{limited}
 use Rattle.payload.specs.Mesh.{Mesh}
 use Rattle.payload.specs.MeshRead.{readMeshes}

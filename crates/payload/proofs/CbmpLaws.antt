@@ -1,15 +1,15 @@
 -- Kind 1 is read exactly where it is spelled, and reading and writing undo each other. Assumes nothing.
 use Prim.Native.Nat.{ℕ, _+_, _*_, _^_, _≤_, _<_}
-use mathlib.Core.Path.{_≡_, refl, sym, ap, _∙_}
-use mathlib.Core.Bool.{Bool, true, false, cond}
+use mathlib.Core.Path.{_≡_, sym, ap, _∙_}
+use mathlib.Core.Bool.{cond}
 use mathlib.Core.List.{List, [], _∷_}
 use mathlib.Core.Logic.{_↔_, _⊎_, inl, inr}
 use native.Mathlib.Decide.{ℕ-discrete}
 use native.Mathlib.Omega.{arith}
 use lib.ListN.{length}
-use lib.Dec.{eqb, leb}
+use lib.Dec.{eqb}
 use borrow.Author.Tests.{le-leb, lt-leb, eq-eqb, ne-eqb}
-use Rattle.bits.specs.Verdict.{Verdict, accepted, declined, andThen}
+use Rattle.bits.specs.Verdict.{accepted, declined, andThen}
 use Rattle.bits.specs.Field.{field}
 use Rattle.bits.specs.Read.{numberAt}
 use Rattle.bits.proofs.VerdictLaws.{le-or-lt, within-yes, within-value, then-value, then-yes}

@@ -9,6 +9,8 @@ use Rattle.bits.specs.Verdict.{Verdict, accepted, needs, declined, andThen, map
 use Rattle.bits.specs.Field.{field}
 use Rattle.bits.specs.Number.{steppedTo, widthOf}
 use Rattle.bits.proofs.VerdictLaws.{mapped-value, mapped-declined}
+use Rattle.bits.proofs.FieldLaws.{field-below}
+use Rattle.bits.proofs.NumberLaws.{stepped-in, stepped-out}
 use Rattle.payload.specs.Mesh.{Submesh}
 use Rattle.payload.specs.Run.{RunSpells, Found, before, readRun, one, five}
 use Rattle.payload.specs.MeshSpells.{aligned, verticesAt}
@@ -43,12 +45,15 @@ module _ (s : List ℕ) (w limit : ℕ) where
   pub one-out : (n p x : ℕ) (q : List ℕ) (r : ℕ) → 0 < n → p + w ≤ 8 * length s → r ≡ steppedTo x (field s p w) → limit ≤ r
       → mapped placeOf (readRun s w limit n p (x ∷ q)) ≡ declined 8
   one-out zero p x q r o h k l = absurd (omega arith)
-  one-out (suc n) p x q r o h k l = rw (run-out s w limit n p (x ∷ q) h (rw k at l))
+  one-out (suc n) p x q r o h k l = rw (run-out s w limit n p (x ∷ q) h (stepped-out x (field s p w) limit (rw k at l)))
 
-  pub one-on : (n p x : ℕ) (q : List ℕ) (r : ℕ) → 0 < n → p + w ≤ 8 * length s → r ≡ steppedTo x (field s p w) → r < limit
+  pub one-on : w ≤ 17 → limit ≤ 65536 → (n p x : ℕ) (q : List ℕ) (r : ℕ) → 0 < n → p + w ≤ 8 * length s → r ≡ steppedTo x (field s p w) → r < limit
       → mapped placeOf (readRun s w limit n p (x ∷ q)) ≡ mapped placeOf (readRun s w limit (n - 1) (p + w) (q ++ (r ∷ [])))
-  one-on zero p x q r o h k l = absurd (omega arith)
-  one-on (suc n) p x q r o h k l = let z : suc n - 1 ≡ n = omega arith in rw (z, k, run-on s w limit n p (x ∷ q) h (rw k at l), place-before)
+  one-on hw hl zero p x q r o h k l = absurd (omega arith)
+  one-on hw hl (suc n) p x q r o h k l =
+      let z : suc n - 1 ≡ n = omega arith in
+      let e = stepped-in x (field s p w) limit (field-below s p w 32 (omega arith)) (omega arith) (rw k at l) in
+      rw (z, k, run-on s w limit n p (x ∷ q) h (steppedTo x (field s p w)) e, place-before)
 
 -- a run that is spelled ends within the bytes
 pub run-fits : {s : List ℕ} {w limit p : ℕ} {prior ns : List ℕ} (n : ℕ) → RunSpells s w limit p prior ns → length ns ≡ n → 1 ≤ n → p + n * w ≤ 8 * length s
@@ -63,20 +68,20 @@ group-fits g n w p e l h =
 
 -- ---- three fields, of one running number
 
-module _ (s : List ℕ) (w limit n p x a b c : ℕ) (o : 3 ≤ n) (h : p + 3 * w ≤ 8 * length s) (ka : a ≡ steppedTo x (field s p w)) where
+module _ (s : List ℕ) (w limit n p x a b c : ℕ) (hw : w ≤ 17) (hl : limit ≤ 65536) (o : 3 ≤ n) (h : p + 3 * w ≤ 8 * length s) (ka : a ≡ steppedTo x (field s p w)) where
   pub three-out₁ : limit ≤ a → mapped placeOf (readRun s w limit n p (x ∷ [])) ≡ declined 8
   three-out₁ l = one-out s w limit n p x [] a (omega arith) (omega arith) ka l
 
   module _ (la : a < limit) (kb : b ≡ steppedTo a (field s (p + w) w)) where
     on₁ : mapped placeOf (readRun s w limit n p (x ∷ [])) ≡ mapped placeOf (readRun s w limit (n - 1) (p + w) (a ∷ []))
-    on₁ = one-on s w limit n p x [] a (omega arith) (omega arith) ka la
+    on₁ = one-on s w limit hw hl n p x [] a (omega arith) (omega arith) ka la
 
     pub three-out₂ : limit ≤ b → mapped placeOf (readRun s w limit n p (x ∷ [])) ≡ declined 8
     three-out₂ l = on₁ ∙ one-out s w limit (n - 1) (p + w) a [] b (omega arith) (omega arith) kb l
 
     module _ (lb : b < limit) (kc : c ≡ steppedTo b (field s (p + w + w) w)) where
       on₂ : mapped placeOf (readRun s w limit n p (x ∷ [])) ≡ mapped placeOf (readRun s w limit (n - 1 - 1) (p + w + w) (b ∷ []))
-      on₂ = on₁ ∙ one-on s w limit (n - 1) (p + w) a [] b (omega arith) (omega arith) kb lb
+      on₂ = on₁ ∙ one-on s w limit hw hl (n - 1) (p + w) a [] b (omega arith) (omega arith) kb lb
 
       pub three-out₃ : limit ≤ c → mapped placeOf (readRun s w limit n p (x ∷ [])) ≡ declined 8
       three-out₃ l = on₂ ∙ one-out s w limit (n - 1 - 1) (p + w + w) b [] c (omega arith) (omega arith) kc l
@@ -85,38 +90,38 @@ module _ (s : List ℕ) (w limit n p x a b c : ℕ) (o : 3 ≤ n) (h : p + 3 * w
       three-on l =
           let z : n - 1 - 1 - 1 ≡ n - 3 = omega arith in
           let y : p + w + w + w ≡ p + 3 * w = omega arith in
-          on₂ ∙ one-on s w limit (n - 1 - 1) (p + w + w) b [] c (omega arith) (omega arith) kc l ∙ rw (z, y)
+          on₂ ∙ one-on s w limit hw hl (n - 1 - 1) (p + w + w) b [] c (omega arith) (omega arith) kc l ∙ rw (z, y)
 
 -- ---- five fields, of five running numbers
 
-module _ (s : List ℕ) (w limit n p : ℕ) (v : Five) (r : FiveNext) (o : 5 ≤ n) (h : p + 5 * w ≤ 8 * length s) (k : Stepped5 s w p v r) where
+module _ (s : List ℕ) (w limit n p : ℕ) (v : Five) (r : FiveNext) (hw : w ≤ 17) (hl : limit ≤ 65536) (o : 5 ≤ n) (h : p + 5 * w ≤ 8 * length s) (k : Stepped5 s w p v r) where
   pub five-out₁ : limit ≤ r .a → mapped placeOf (readRun s w limit n p (queue v)) ≡ declined 8
   five-out₁ l = one-out s w limit n p (v .a) (v .b ∷ v .c ∷ v .d ∷ v .e ∷ []) (r .a) (omega arith) (omega arith) (k .first) l
 
   module _ (la : r .a < limit) where
     to₁ : mapped placeOf (readRun s w limit n p (queue v)) ≡ mapped placeOf (readRun s w limit (n - 1) (p + w) (v .b ∷ v .c ∷ v .d ∷ v .e ∷ r .a ∷ []))
-    to₁ = one-on s w limit n p (v .a) (v .b ∷ v .c ∷ v .d ∷ v .e ∷ []) (r .a) (omega arith) (omega arith) (k .first) la
+    to₁ = one-on s w limit hw hl n p (v .a) (v .b ∷ v .c ∷ v .d ∷ v .e ∷ []) (r .a) (omega arith) (omega arith) (k .first) la
 
     pub five-out₂ : limit ≤ r .b → mapped placeOf (readRun s w limit n p (queue v)) ≡ declined 8
     five-out₂ l = to₁ ∙ one-out s w limit (n - 1) (p + w) (v .b) (v .c ∷ v .d ∷ v .e ∷ r .a ∷ []) (r .b) (omega arith) (omega arith) (k .second) l
 
     module _ (lb : r .b < limit) where
       to₂ : mapped placeOf (readRun s w limit n p (queue v)) ≡ mapped placeOf (readRun s w limit (n - 1 - 1) (p + w + w) (v .c ∷ v .d ∷ v .e ∷ r .a ∷ r .b ∷ []))
-      to₂ = to₁ ∙ one-on s w limit (n - 1) (p + w) (v .b) (v .c ∷ v .d ∷ v .e ∷ r .a ∷ []) (r .b) (omega arith) (omega arith) (k .second) lb
+      to₂ = to₁ ∙ one-on s w limit hw hl (n - 1) (p + w) (v .b) (v .c ∷ v .d ∷ v .e ∷ r .a ∷ []) (r .b) (omega arith) (omega arith) (k .second) lb
 
       pub five-out₃ : limit ≤ r .c → mapped placeOf (readRun s w limit n p (queue v)) ≡ declined 8
       five-out₃ l = to₂ ∙ one-out s w limit (n - 1 - 1) (p + w + w) (v .c) (v .d ∷ v .e ∷ r .a ∷ r .b ∷ []) (r .c) (omega arith) (omega arith) (k .third) l
 
       module _ (lc : r .c < limit) where
         to₃ : mapped placeOf (readRun s w limit n p (queue v)) ≡ mapped placeOf (readRun s w limit (n - 1 - 1 - 1) (p + w + w + w) (v .d ∷ v .e ∷ r .a ∷ r .b ∷ r .c ∷ []))
-        to₃ = to₂ ∙ one-on s w limit (n - 1 - 1) (p + w + w) (v .c) (v .d ∷ v .e ∷ r .a ∷ r .b ∷ []) (r .c) (omega arith) (omega arith) (k .third) lc
+        to₃ = to₂ ∙ one-on s w limit hw hl (n - 1 - 1) (p + w + w) (v .c) (v .d ∷ v .e ∷ r .a ∷ r .b ∷ []) (r .c) (omega arith) (omega arith) (k .third) lc
 
         pub five-out₄ : limit ≤ r .d → mapped placeOf (readRun s w limit n p (queue v)) ≡ declined 8
         five-out₄ l = to₃ ∙ one-out s w limit (n - 1 - 1 - 1) (p + w + w + w) (v .d) (v .e ∷ r .a ∷ r .b ∷ r .c ∷ []) (r .d) (omega arith) (omega arith) (k .fourth) l
 
         module _ (ld : r .d < limit) where
           to₄ : mapped placeOf (readRun s w limit n p (queue v)) ≡ mapped placeOf (readRun s w limit (n - 1 - 1 - 1 - 1) (p + w + w + w + w) (v .e ∷ r .a ∷ r .b ∷ r .c ∷ r .d ∷ []))
-          to₄ = to₃ ∙ one-on s w limit (n - 1 - 1 - 1) (p + w + w + w) (v .d) (v .e ∷ r .a ∷ r .b ∷ r .c ∷ []) (r .d) (omega arith) (omega arith) (k .fourth) ld
+          to₄ = to₃ ∙ one-on s w limit hw hl (n - 1 - 1 - 1) (p + w + w + w) (v .d) (v .e ∷ r .a ∷ r .b ∷ r .c ∷ []) (r .d) (omega arith) (omega arith) (k .fourth) ld
 
           pub five-out₅ : limit ≤ r .e → mapped placeOf (readRun s w limit n p (queue v)) ≡ declined 8
           five-out₅ l = to₄ ∙ one-out s w limit (n - 1 - 1 - 1 - 1) (p + w + w + w + w) (v .e) (r .a ∷ r .b ∷ r .c ∷ r .d ∷ []) (r .e) (omega arith) (omega arith) (k .fifth) l
@@ -125,18 +130,18 @@ module _ (s : List ℕ) (w limit n p : ℕ) (v : Five) (r : FiveNext) (o : 5 ≤
           five-on l =
               let z : n - 1 - 1 - 1 - 1 - 1 ≡ n - 5 = omega arith in
               let y : p + w + w + w + w + w ≡ p + 5 * w = omega arith in
-              to₄ ∙ one-on s w limit (n - 1 - 1 - 1 - 1) (p + w + w + w + w) (v .e) (r .a ∷ r .b ∷ r .c ∷ r .d ∷ []) (r .e) (omega arith) (omega arith) (k .fifth) l ∙ rw (z, y)
+              to₄ ∙ one-on s w limit hw hl (n - 1 - 1 - 1 - 1) (p + w + w + w + w) (v .e) (r .a ∷ r .b ∷ r .c ∷ r .d ∷ []) (r .e) (omega arith) (omega arith) (k .fifth) l ∙ rw (z, y)
 
 -- ---- a submesh, from its run's answer
 
-module _ (s : List ℕ) (w m p : ℕ) (hw : w ≤ 17) (hm : m ≤ 65536) where
+module _ (s : List ℕ) (w m p : ℕ) where
   pub submesh-says : (count : ℕ) (r : Verdict ℕ) → p + 48 ≤ 8 * length s → count ≡ field s (p + 16) 32 → 1 ≤ count → count ≤ 128000
       → r ≡ mapped placeOf (readRun s w m count (p + 48) one) → mapped (λ q. (count, q)) r ≡ mapped pointsEnd (readSubmesh s w m p)
   submesh-says count r h c l u e =
       ap (mapped (λ q. (count, q))) e ∙ sym (ap (mapped pointsEnd) (submesh-run s w m p h (omega arith) (omega arith)) ∙ rw (← c) (go (readRun s w m count (p + 48) one) refl))
     where
       go : (v : Found (List ℕ)) → readRun s w m count (p + 48) one ≡ v → mapped pointsEnd (andThen v (submeshOf s p)) ≡ mapped (λ q. (count, q)) (mapped placeOf v)
-      go (accepted x) d = let f = run-spells s w m (omega arith) (omega arith) count (p + 48) one (x .0) (x .1) (omega arith) d in rw (f .1)
+      go (accepted x) d = let f = run-spells s w m count (p + 48) one (x .0) (x .1) (omega arith) d in rw (f .1)
       go (needs k) d = refl
       go (declined k) d = refl
 
@@ -145,7 +150,7 @@ module _ (s : List ℕ) (w m p : ℕ) (hw : w ≤ 17) (hm : m ≤ 65536) where
   submesh-end n q o e =
       let v = mapped-value pointsEnd (readSubmesh s w m p) (n, q) e in
       let x = v .0 .0 in
-      let f = submesh-spells s w m p (omega arith) (omega arith) x (v .0 .1) (v .1) in
+      let f = submesh-spells s w m p x (v .0 .1) (v .1) in
       let a : length (x .points) ≡ n = ap (λ (y : ℕ × ℕ). y .0) (v .2) in
       let b : v .0 .1 ≡ q = ap (λ (y : ℕ × ℕ). y .1) (v .2) in
       let c : p + 48 + length (x .points) * w ≤ 8 * length s = run-fits (length (x .points)) (f .0 .run) refl (f .0 .some) in
@@ -157,12 +162,12 @@ abbrev pub counted : ℕ → ℕ → List Submesh × ℕ → ℕ × ℕ
 counted k n x = (k, n + pointCount (x .0))
 
 module _ (s : List ℕ) (w m : ℕ) where
-  pub counted-all : (k p : ℕ) → w ≤ 17 → m ≤ 65536 → mapped submeshesSize (many (readSubmesh s w m) k p) ≡ mapped (counted k 0) (many (readSubmesh s w m) k p)
-  counted-all k p hw hm = go (many (readSubmesh s w m) k p) refl
+  pub counted-all : (k p : ℕ) → mapped submeshesSize (many (readSubmesh s w m) k p) ≡ mapped (counted k 0) (many (readSubmesh s w m) k p)
+  counted-all k p = go (many (readSubmesh s w m) k p) refl
     where
       go : (v : Found (List Submesh)) → many (readSubmesh s w m) k p ≡ v → mapped submeshesSize v ≡ mapped (counted k 0) v
       go (accepted x) d =
-          let f = submeshes-spell s w m (omega arith) (omega arith) k p (x .0) (x .1) d in
+          let f = submeshes-spell s w m k p (x .0) (x .1) d in
           let z : pointCount (x .0) ≡ 0 + pointCount (x .0) = omega arith in
           rw (f .1, ← z)
       go (needs l) d = refl
@@ -212,7 +217,7 @@ module _ (s : List ℕ) (n m w : ℕ) (ew : w ≡ widthOf n) where
         let f = mapped-value placeOf (readRun s w n (5 * m) (verticesAt n) five) q e in
         let r : readRun s (widthOf n) n (5 * m) (verticesAt n) five ≡ accepted (f .0 .0, q) = at-width (accepted (f .0 .0, q)) (f .1 ∙ ap (λ (k : ℕ). accepted (f .0 .0, k)) (f .2)) in
         let b : widthOf n ≤ 16 = width-small n (omega arith) in
-        let v = run-spells s (widthOf n) n (omega arith) (omega arith) (5 * m) (verticesAt n) five (f .0 .0) q (omega arith) r in
+        let v = run-spells s (widthOf n) n (5 * m) (verticesAt n) five (f .0 .0) q (omega arith) r in
         (f .0 .0, r, v .1, λ o. omega (arith, v .2, run-fits (5 * m) (v .0) (v .1) (omega arith)), omega (arith, v .2))
 
     pub vertices-end : 1 ≤ m → (q ≤ 8 * length s) × (verticesAt n ≤ q)

@@ -1,5 +1,5 @@
 -- What the filling pass learns of a mesh list that was read, and that it stores the list's drawing piece by piece. Assumes nothing.
-use Prim.Native.Nat.{ℕ, zero, suc, _+_, _-_, _*_, _≤_, _<_, _^_}
+use Prim.Native.Nat.{ℕ, zero, suc, _+_, _-_, _*_, _≤_, _<_}
 use mathlib.Core.Path.{_≡_, refl, sym, ap, ap₂, _∙_}
 use mathlib.Core.List.{List, [], _∷_, _++_, append-assoc, append-nil}
 use mathlib.Core.Logic.{_⊎_, inl, inr}
@@ -116,7 +116,7 @@ tail-read x (accepted l) r = (refl, tt)
 tail-read x (needs k) r = absurd r
 tail-read x (declined k) r = absurd r
 
-module _ (s : List ℕ) (w m : ℕ) (hw : w ≤ 32) (hm : m ≤ 2 ^ 32) where
+module _ (s : List ℕ) (w m : ℕ) where
   submesh-turn : (n p k : ℕ) → 0 < n → WasRead (many (readSubmesh s w m) n p) → k ≡ field s (p + 16) 32 → (x : Submesh) × SubmeshTurn s w m n p k x
   submesh-turn zero p k o r c = absurd (omega arith)
   submesh-turn (suc n) p k o r c = let v = first-read (readSubmesh s w m) n p r in go (v .0) (v .1) (v .2)
@@ -126,7 +126,7 @@ module _ (s : List ℕ) (w m : ℕ) (hw : w ≤ 32) (hm : m ≤ 2 ^ 32) where
 
       go : (x : Submesh) (q : ℕ) → readSubmesh s w m p ≡ accepted (x, q) → (x : Submesh) × SubmeshTurn s w m (suc n) p k x
       go x q d =
-          let f = submesh-spells s w m p hw hm x q d in
+          let f = submesh-spells s w m p x q d in
           let e = many-on (readSubmesh s w m) n p x q d in
           let b = tail-read x (many (readSubmesh s w m) n q) (rw e at r) in
           let g : k ≡ length (x .points) = c ∙ f .0 .count in
@@ -137,7 +137,7 @@ module _ (s : List ℕ) (w m : ℕ) (hw : w ≤ 32) (hm : m ≤ 2 ^ 32) where
               mode = f .0 .mode;
               count = g;
               ends = run-fits k (f .0 .run) (sym g) (omega (arith, f .0 .some));
-              run = rw g (spells-run s w m hw hm (p + 48) one (x .points) (omega arith) (f .0 .run));
+              run = rw g (spells-run s w m (p + 48) one (x .points) (omega arith) (f .0 .run));
               is = rw (z, e, ← i) (b .0);
               rest = rw (z, ← i) (b .1);
             },
@@ -176,7 +176,7 @@ submeshes-left s w m left bit e h l r = record { read = rw e r; narrow = rw e (w
 
 module _ {s : List ℕ} {w m left bit : ℕ} (L : SubmeshesLeft s w m left bit) where
   pub left-turn : (k : ℕ) → 0 < left → k ≡ field s (bit + 16) 32 → (x : Submesh) × SubmeshTurn s w m left bit k x
-  left-turn k o e = submesh-turn s w m (omega (arith, L .narrow)) (omega (arith, L .most)) left bit k o (L .read) e
+  left-turn k o e = submesh-turn s w m left bit k o (L .read) e
 
   -- the header of the next submesh lies inside
   pub left-room : 0 < left → bit + 48 ≤ 8 * length s

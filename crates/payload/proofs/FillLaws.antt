@@ -15,10 +15,6 @@ use Rattle.payload.specs.Fill.{each, answered, front, bothLengths}
 
 -- ---- pieces
 
-pub each-zero : (f : ℕ → List ℕ) → each f 0 ≡ []
-unfolding each
-each-zero f = refl
-
 pub each-more : (f : ℕ → List ℕ) (n : ℕ) → each f (n + 1) ≡ each f n ++ f n
 unfolding each
 each-more f n = rw add-one

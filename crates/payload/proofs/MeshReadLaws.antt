@@ -85,34 +85,33 @@ module _ (s : List ℕ) (w m p : ℕ) where
     unfolding readSubmesh
     submesh-run l u = complete-yes s (p + 48) _ h ∙ inrange-yes 1 128000 _ _ l u
 
-  module _ (hw : w ≤ 32) (hm : m ≤ 2 ^ 32) where
-    pub submesh-spells : (x : Submesh) (q : ℕ) → readSubmesh s w m p ≡ accepted (x, q) → SubmeshSpells s w m p x × (q ≡ p + submeshBits w x)
-    unfolding readSubmesh
-    submesh-spells x q e =
-        let a = complete-value s (p + 48) _ (x, q) e in
-        let b = inrange-value 1 128000 (field s (p + 16) 32) _ (x, q) (a .1) in
-        let c = then-value (readRun s w m (field s (p + 16) 32) (p + 48) one) (submeshOf s p) (x, q) (b .2) in
-        from (a .0) (b .0) (b .1) (c .0 .0) (c .0 .1) (c .1) (c .2)
-      where
-        from : p + 48 ≤ 8 * length s → 1 ≤ field s (p + 16) 32 → field s (p + 16) 32 ≤ 128000
-            → (ns : List ℕ) (t : ℕ) → readRun s w m (field s (p + 16) 32) (p + 48) one ≡ accepted (ns, t) → submeshOf s p (ns, t) ≡ accepted (x, q)
-            → SubmeshSpells s w m p x × (q ≡ p + submeshBits w x)
-        from h l u ns t r d =
-            let f = run-spells s w m hw hm (field s (p + 16) 32) (p + 48) one ns t (omega arith) r in
-            let z : _≡_ {A = Submesh × ℕ} (record { texture = field s p 8; mode = field s (p + 8) 8; points = ns }, t) (x, q) = cc in
-            let i = ap (λ (y : Submesh × ℕ). y .0) z in
-            let j : t ≡ q = ap (λ (y : Submesh × ℕ). y .1) z in
-            rw (← i, ← j)
-            (record { header = h; texture = refl; mode = refl; count = sym (f .1); some = omega arith; most = omega arith; run = f .0 }, rw (f .1) (omega arith))
+  pub submesh-spells : (x : Submesh) (q : ℕ) → readSubmesh s w m p ≡ accepted (x, q) → SubmeshSpells s w m p x × (q ≡ p + submeshBits w x)
+  unfolding readSubmesh
+  submesh-spells x q e =
+      let a = complete-value s (p + 48) _ (x, q) e in
+      let b = inrange-value 1 128000 (field s (p + 16) 32) _ (x, q) (a .1) in
+      let c = then-value (readRun s w m (field s (p + 16) 32) (p + 48) one) (submeshOf s p) (x, q) (b .2) in
+      from (a .0) (b .0) (b .1) (c .0 .0) (c .0 .1) (c .1) (c .2)
+    where
+      from : p + 48 ≤ 8 * length s → 1 ≤ field s (p + 16) 32 → field s (p + 16) 32 ≤ 128000
+          → (ns : List ℕ) (t : ℕ) → readRun s w m (field s (p + 16) 32) (p + 48) one ≡ accepted (ns, t) → submeshOf s p (ns, t) ≡ accepted (x, q)
+          → SubmeshSpells s w m p x × (q ≡ p + submeshBits w x)
+      from h l u ns t r d =
+          let f = run-spells s w m (field s (p + 16) 32) (p + 48) one ns t (omega arith) r in
+          let z : _≡_ {A = Submesh × ℕ} (record { texture = field s p 8; mode = field s (p + 8) 8; points = ns }, t) (x, q) = cc in
+          let i = ap (λ (y : Submesh × ℕ). y .0) z in
+          let j : t ≡ q = ap (λ (y : Submesh × ℕ). y .1) z in
+          rw (← i, ← j)
+          (record { header = h; texture = refl; mode = refl; count = sym (f .1); some = omega arith; most = omega arith; run = f .0 }, rw (f .1) (omega arith))
 
-    pub spells-submesh : (x : Submesh) → SubmeshSpells s w m p x → readSubmesh s w m p ≡ accepted (x, p + submeshBits w x)
-    spells-submesh x e =
-        let r : readRun s w m (field s (p + 16) 32) (p + 48) one ≡ accepted (x .points, p + 48 + length (x .points) * w) =
-        rw (e .count) (spells-run s w m hw hm (p + 48) one (x .points) (omega arith) (e .run)) in
-        let q : p + 48 + length (x .points) * w ≡ p + submeshBits w x = omega arith in
-        submesh-run (e .header) (rw (e .count) (e .some)) (rw (e .count) (e .most))
-        ∙ then-yes (readRun s w m (field s (p + 16) 32) (p + 48) one) (submeshOf s p) (x .points, p + 48 + length (x .points) * w) r
-        ∙ rw (e .texture, e .mode, q)
+  pub spells-submesh : (x : Submesh) → SubmeshSpells s w m p x → readSubmesh s w m p ≡ accepted (x, p + submeshBits w x)
+  spells-submesh x e =
+      let r : readRun s w m (field s (p + 16) 32) (p + 48) one ≡ accepted (x .points, p + 48 + length (x .points) * w) =
+      rw (e .count) (spells-run s w m (p + 48) one (x .points) (omega arith) (e .run)) in
+      let q : p + 48 + length (x .points) * w ≡ p + submeshBits w x = omega arith in
+      submesh-run (e .header) (rw (e .count) (e .some)) (rw (e .count) (e .most))
+      ∙ then-yes (readRun s w m (field s (p + 16) 32) (p + 48) one) (submeshOf s p) (x .points, p + 48 + length (x .points) * w) r
+      ∙ rw (e .texture, e .mode, q)
 
 -- ---- n things, one after the other
 
@@ -189,13 +188,13 @@ submeshes-on s w m k p h e l =
     let u : k ≤ 4294967295 = omega (arith, field-lt s p 32) in
     complete-yes s (p + 32) _ h ∙ rw e (inrange-yes 1 4294967295 k _ l u)
 
-module _ (s : List ℕ) (w m : ℕ) (hw : w ≤ 32) (hm : m ≤ 2 ^ 32) where
+module _ (s : List ℕ) (w m : ℕ) where
   pub submeshes-spell : (k p : ℕ) (l : List Submesh) (t : ℕ) → many (readSubmesh s w m) k p ≡ accepted (l, t)
       → SubmeshesSpell s w m p l × (length l ≡ k) × (t ≡ p + sizes (submeshBits w) l)
-  submeshes-spell = many-spells (readSubmesh s w m) (submeshBits w) (SubmeshSpells s w m) (λ p. submesh-spells s w m p hw hm) (λ p. spells-submesh s w m p hw hm)
+  submeshes-spell = many-spells (readSubmesh s w m) (submeshBits w) (SubmeshSpells s w m) (submesh-spells s w m) (spells-submesh s w m)
 
   pub spell-submeshes : (p : ℕ) (l : List Submesh) → SubmeshesSpell s w m p l → many (readSubmesh s w m) (length l) p ≡ accepted (l, p + sizes (submeshBits w) l)
-  spell-submeshes = spells-many (readSubmesh s w m) (submeshBits w) (SubmeshSpells s w m) (λ p. submesh-spells s w m p hw hm) (λ p. spells-submesh s w m p hw hm)
+  spell-submeshes = spells-many (readSubmesh s w m) (submeshBits w) (SubmeshSpells s w m) (submesh-spells s w m) (spells-submesh s w m)
 
 -- ---- words
 
@@ -335,13 +334,13 @@ module _ {s : List ℕ} {x : Mesh} {t : ℕ} (r : MeshParts s x t) where
   pub parts-vertices : RunSpells s (widthOf (r .n)) (r .n) (verticesAt (r .n)) five (x .vertices) × (length (x .vertices) ≡ 5 * r .m) × (r .q ≡ verticesAt (r .n) + 5 * r .m * widthOf (r .n))
   parts-vertices =
       let w : widthOf (r .n) ≤ 16 = width-small (r .n) (omega (arith, r .n-most)) in
-      run-spells s (widthOf (r .n)) (r .n) (omega arith) (omega (arith, r .n-most)) (5 * r .m) (verticesAt (r .n)) five (x .vertices) (r .q) (omega arith) (r .run)
+      run-spells s (widthOf (r .n)) (r .n) (5 * r .m) (verticesAt (r .n)) five (x .vertices) (r .q) (omega arith) (r .run)
 
   pub parts-submeshes : SubmeshesSpell s (widthOf (r .m)) (r .m) (aligned (r .q) + 32) (x .submeshes) × (length (x .submeshes) ≡ r .k)
       × (t ≡ aligned (r .q) + 32 + sizes (submeshBits (widthOf (r .m))) (x .submeshes))
   parts-submeshes =
       let w : widthOf (r .m) ≤ 16 = width-small (r .m) (r .m-most) in
-      submeshes-spell s (widthOf (r .m)) (r .m) (omega arith) (omega (arith, r .m-most)) (r .k) (aligned (r .q) + 32) (x .submeshes) t (r .each)
+      submeshes-spell s (widthOf (r .m)) (r .m) (r .k) (aligned (r .q) + 32) (x .submeshes) t (r .each)
 
 -- ---- a mesh is read exactly where it is spelled
 
@@ -385,7 +384,7 @@ module _ (s : List ℕ) where
       let wn : widthOf n ≤ 16 = width-small n (omega (arith, e .pool-most)) in
       let wm : widthOf m ≤ 16 = width-small m (e .vertex-most) in
       let r : readRun s (widthOf n) n (5 * m) (verticesAt n) five ≡ accepted (x .vertices, q) =
-      rw (← e .fives) (spells-run s (widthOf n) n (omega arith) (omega (arith, e .pool-most)) (verticesAt n) five (x .vertices) (omega arith) (e .vertices-run)) in
+      rw (← e .fives) (spells-run s (widthOf n) n (verticesAt n) five (x .vertices) (omega arith) (e .vertices-run)) in
       let p : readWords s 32 n ≡ x .pool =
       ext-getD 0 (readWords s 32 n) (x .pool) (words-length s 32 n)
       (λ i h. let h′ : i < n = rw (words-length s 32 n) at h in words-at s 32 n i h′ ∙ e .pool-words i h′) in
@@ -394,18 +393,11 @@ module _ (s : List ℕ) where
       ∙ counts-on s n m (x .vertices) q r
       ∙ then-yes (readSubmeshes s (widthOf m) m (aligned q)) (meshOf s n (x .vertices)) (x .submeshes, meshEnd x)
       (submeshes-on s (widthOf m) m (length (x .submeshes)) (aligned q) (e .tail) (e .submesh-count) (e .submesh-some)
-      ∙ spell-submeshes s (widthOf m) m (omega arith) (omega (arith, e .vertex-most)) (aligned q + 32) (x .submeshes) (e .submeshes-run))
+      ∙ spell-submeshes s (widthOf m) m (aligned q + 32) (x .submeshes) (e .submeshes-run))
       ∙ rw p
 
   pub spells-mesh : (x : Mesh) → MeshSpells s x → (q : ℕ) × (readMesh s ≡ accepted (x, q))
   spells-mesh x e = (meshEnd x, spelled x e)
-
-  pub mesh-once : (x y : Mesh) → MeshSpells s x → MeshSpells s y → x ≡ y
-  mesh-once x y a b =
-      let e = spelled x a in
-      let f = spelled y b in
-      let z : _≡_ {A = Mesh × ℕ} (x, meshEnd x) (y, meshEnd y) = cc in
-      ap (λ (u : Mesh × ℕ). u .0) z
 
 -- ---- a box of the list
 

@@ -1,9 +1,9 @@
 -- Laws of packed fields: what stands in them, that nothing else is packed alike, and how a writer goes on.
-use Prim.Native.Nat.{ℕ, zero, suc, _+_, _-_, _*_, _/_, _%_, _^_, _<_}
+use Prim.Native.Nat.{ℕ, zero, suc, _+_, _*_, _/_, _%_, _^_, _<_}
 use mathlib.Core.Path.{_≡_, refl, sym, ap, ap₂, _∙_, subst}
 use mathlib.Core.List.{List, [], _∷_, _++_}
 use native.Mathlib.Omega.{arith}
-use native.Mathlib.Nat.{mod-eq-of-lt, mul-assoc, add-mul, add-assoc, mul-one, add-zero, div-one}
+use native.Mathlib.Nat.{mod-eq-of-lt, mul-assoc, add-mul, add-assoc, add-zero, div-one}
 use lib.ListN.{length, getD}
 use lib.Arith.{digits-lt}
 use lib.Pow.{pow-add, shl-shr, shl-lt, shr-shr, high, low}

@@ -1,17 +1,17 @@
 -- A run of delta fields: one law for each way through a turn of `readRun`, what a run that was read tells, and that it is read exactly where it is spelled. Assumes nothing.
-use Prim.Native.Nat.{ℕ, zero, suc, _+_, _-_, _*_, _^_, _≤_, _<_, suc-le-suc}
+use Prim.Native.Nat.{ℕ, zero, suc, _+_, _*_, _≤_, _<_, suc-le-suc}
 use mathlib.Core.Path.{_≡_, refl, sym, ap, _∙_}
 use mathlib.Core.List.{List, [], _∷_, _++_, append-assoc}
 use native.Mathlib.Omega.{arith}
-use native.Mathlib.Decide.{decLe, decLt}
+use native.Mathlib.Decide.{decLe}
 use native.Mathlib.Nat.{le-of-suc-le-suc, zero-lt-suc}
-use lib.ListN.{length, getD, drop, length-append}
-use borrow.Author.Tests.{le-leb, lt-leb, lt-ltb, le-ltb}
-use Rattle.bits.specs.Verdict.{Verdict, accepted, needs, declined}
+use lib.ListN.{length, getD, length-append}
+use borrow.Author.Tests.{le-leb, lt-leb}
+use Rattle.bits.specs.Verdict.{Verdict, accepted, needs, declined, andThen}
 use Rattle.bits.specs.Field.{field}
-use Rattle.bits.specs.Number.{Moves, ranOn, steppedTo}
-use Rattle.bits.proofs.FieldLaws.{field-below}
-use Rattle.bits.proofs.NumberLaws.{ran-moves, moves-ran, stepped-in, stepped-out}
+use Rattle.bits.specs.Number.{Moves}
+use Rattle.bits.proofs.NumberLaws.{ran-moves, moves-ran}
+use Rattle.bits.proofs.VerdictLaws.{then-value}
 use Rattle.payload.specs.Run.{RunSpells, Found, complete, shift, nextOf, before, readRun}
 
 -- ---- fields that are to be complete
@@ -40,13 +40,13 @@ module _ (s : List ℕ) (w limit n p : ℕ) (prior : List ℕ) where
   run-short h = complete-no s (p + w) _ h
 
   module _ (h : p + w ≤ 8 * length s) where
-    pub run-out : limit ≤ nextOf s w p prior → readRun s w limit (suc n) p prior ≡ declined 8
+    pub run-out : nextOf s w limit p prior ≡ declined 8 → readRun s w limit (suc n) p prior ≡ declined 8
     unfolding readRun
-    run-out o = complete-yes s (p + w) _ h ∙ simp (le-ltb (nextOf s w p prior) limit o)
+    run-out e = complete-yes s (p + w) _ h ∙ rw e
 
-    pub run-on : nextOf s w p prior < limit → readRun s w limit (suc n) p prior ≡ before (nextOf s w p prior) (readRun s w limit n (p + w) (shift prior (nextOf s w p prior)))
+    pub run-on : (next : ℕ) → nextOf s w limit p prior ≡ accepted next → readRun s w limit (suc n) p prior ≡ before next (readRun s w limit n (p + w) (shift prior next))
     unfolding readRun
-    run-on o = complete-yes s (p + w) _ h ∙ simp (lt-ltb (nextOf s w p prior) limit o)
+    run-on next e = complete-yes s (p + w) _ h ∙ rw e
 
 pub before-value : (n : ℕ) (v : Found (List ℕ)) (ns : List ℕ) (q : ℕ) → before n v ≡ accepted (ns, q) → (ms : List ℕ) × (ns ≡ n ∷ ms) × (v ≡ accepted (ms, q))
 before-value n (accepted x) ns q e =
@@ -59,20 +59,20 @@ before-value n (declined k) ns q e = let z : _≡_ {A = ℕ} 0 1 = cc in absurd 
 -- what a run that was read tells of its first field
 pub record First (s : List ℕ) (w limit n p : ℕ) (prior ns : List ℕ) (q : ℕ) : Type 0 where
   pub room : p + w ≤ 8 * length s
-  pub below : nextOf s w p prior < limit
+  pub next : ℕ
+  pub ran : nextOf s w limit p prior ≡ accepted next
   pub tail : List ℕ
-  pub cons : ns ≡ nextOf s w p prior ∷ tail
-  pub rest : readRun s w limit n (p + w) (shift prior (nextOf s w p prior)) ≡ accepted (tail, q)
+  pub cons : ns ≡ next ∷ tail
+  pub rest : readRun s w limit n (p + w) (shift prior next) ≡ accepted (tail, q)
 
 pub run-first : (s : List ℕ) (w limit n p : ℕ) (prior ns : List ℕ) (q : ℕ) → readRun s w limit (suc n) p prior ≡ accepted (ns, q) → First s w limit n p prior ns q
-run-first s w limit n p prior ns q e = go (decLe (p + w) (8 * length s)) (decLt (nextOf s w p prior) limit)
-  where
-    go : Dec (p + w ≤ 8 * length s) → Dec (nextOf s w p prior < limit) → First s w limit n p prior ns q
-    go (yes h) (yes o) =
-        let b = before-value (nextOf s w p prior) (readRun s w limit n (p + w) (shift prior (nextOf s w p prior))) ns q (sym (run-on s w limit n p prior h o) ∙ e) in
-        record { room = h; below = o; tail = b .0; cons = b .1; rest = b .2 }
-    go (yes h) (no o) = absurd (let f = run-out s w limit n p prior h (omega arith) in let z : _≡_ {A = ℕ} 0 1 = cc in omega arith)
-    go (no h) d = absurd (let f = run-short s w limit n p prior (omega arith) in let z : _≡_ {A = ℕ} 0 1 = cc in omega arith)
+unfolding readRun
+run-first s w limit n p prior ns q e =
+    let after : ℕ → Found (List ℕ) = λ next. before next (readRun s w limit n (p + w) (shift prior next)) in
+    let c = complete-value s (p + w) (andThen (nextOf s w limit p prior) after) (ns, q) e in
+    let t = then-value (nextOf s w limit p prior) after (ns, q) (c .1) in
+    let b = before-value (t .0) (readRun s w limit n (p + w) (shift prior (t .0))) ns q (t .2) in
+    record { room = c .0; next = t .0; ran = t .1; tail = b .0; cons = b .1; rest = b .2 }
 
 -- ---- a spelled run, field by field
 
@@ -126,27 +126,9 @@ module _ (s : List ℕ) (w limit p : ℕ) (prior : List ℕ) where
         let z : p + 0 * w ≡ p = omega arith in
         (omega (arith, r .whole 0 o), r .below 0 o, rw (z, front prior (x ∷ xs) some) at (r .moves 0 o))
 
--- ---- one step and the move that it makes, below a limit of at most 2^32 and for widths of at most 32
-
-step-moves : (s : List ℕ) (w limit p last next : ℕ) → w ≤ 32 → limit ≤ 2 ^ 32 → next ≡ steppedTo last (field s p w) → next < limit → Moves (field s p w) last next
-step-moves s w limit p last next hw hl e h =
-    let f : field s p w < 2 ^ 32 = field-below s p w 32 hw in
-    let r = stepped-in last (field s p w) limit f hl (rw e at h) in
-    rw e (ran-moves last (field s p w) limit (steppedTo last (field s p w)) r .0)
-
-moves-step : (s : List ℕ) (w limit p last next : ℕ) → w ≤ 32 → limit ≤ 2 ^ 32 → Moves (field s p w) last next → next < limit → steppedTo last (field s p w) ≡ next
-moves-step s w limit p last next hw hl m h = go (decLt (steppedTo last (field s p w)) limit)
-  where
-    r : ranOn limit last (field s p w) ≡ accepted next
-    r = moves-ran last (field s p w) limit next m h
-
-    go : Dec (steppedTo last (field s p w) < limit) → steppedTo last (field s p w) ≡ next
-    go (yes l) = let t = stepped-in last (field s p w) limit (field-below s p w 32 hw) hl l in let u = r in cc
-    go (no l) = absurd (let t = stepped-out last (field s p w) limit (omega arith) in let u = r in let z : _≡_ {A = ℕ} 0 1 = cc in omega arith)
-
 -- ---- a run is read exactly where it is spelled
 
-module _ (s : List ℕ) (w limit : ℕ) (hw : w ≤ 32) (hl : limit ≤ 2 ^ 32) where
+module _ (s : List ℕ) (w limit : ℕ) where
   pub run-spells : (n p : ℕ) (prior ns : List ℕ) (q : ℕ) → 0 < length prior → readRun s w limit n p prior ≡ accepted (ns, q)
       → RunSpells s w limit p prior ns × (length ns ≡ n) × (q ≡ p + n * w)
   unfolding readRun
@@ -157,9 +139,10 @@ module _ (s : List ℕ) (w limit : ℕ) (hw : w ≤ 32) (hl : limit ≤ 2 ^ 32) 
       rw z (spells-none s w limit p prior, refl, omega arith)
   run-spells (suc n) p prior ns q o e =
       let i = run-first s w limit n p prior ns q e in
-      let x = nextOf s w p prior in
+      let x = i .next in
+      let m = ran-moves (getD prior 0 0) (field s p w) limit x (i .ran) in
       let ih = run-spells n (p + w) (shift prior x) (i .tail) q (shift-some prior x) (i .rest) in
-      rw (i .cons) (spells-cons s w limit p prior o x (i .tail) (i .room) (i .below) (step-moves s w limit p (getD prior 0 0) x hw hl refl (i .below)) (ih .0), ap suc (ih .1), omega arith)
+      rw (i .cons) (spells-cons s w limit p prior o x (i .tail) (i .room) (m .1) (m .0) (ih .0), ap suc (ih .1), omega arith)
 
   pub spells-run : (p : ℕ) (prior ns : List ℕ) → 0 < length prior → RunSpells s w limit p prior ns
       → readRun s w limit (length ns) p prior ≡ accepted (ns, p + length ns * w)
@@ -167,7 +150,6 @@ module _ (s : List ℕ) (w limit : ℕ) (hw : w ≤ 32) (hl : limit ≤ 2 ^ 32) 
   spells-run p prior [] o r = ap (λ (k : ℕ). accepted ([], k)) (omega arith)
   spells-run p prior (x ∷ xs) o r =
       let f = spells-head s w limit p prior o x xs r in
-      let m : nextOf s w p prior ≡ x = moves-step s w limit p (getD prior 0 0) x hw hl (f .2) (f .1) in
       let y : p + w + length xs * w ≡ p + suc (length xs) * w = omega arith in
-      run-on s w limit (length xs) p prior (f .0) (rw m (f .1))
-      ∙ rw (m, spells-run (p + w) (shift prior x) xs (shift-some prior x) (spells-tail s w limit p prior o x xs r)) (ap (λ (k : ℕ). accepted (x ∷ xs, k)) y)
+      run-on s w limit (length xs) p prior (f .0) x (moves-ran (getD prior 0 0) (field s p w) limit x (f .2) (f .1))
+      ∙ rw (spells-run (p + w) (shift prior x) xs (shift-some prior x) (spells-tail s w limit p prior o x xs r)) (ap (λ (k : ℕ). accepted (x ∷ xs, k)) y)

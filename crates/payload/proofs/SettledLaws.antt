@@ -1,15 +1,15 @@
 -- A mesh list is settled by its bytes: reading it gives a reading or one number, and never asks for a buffer. Assumes nothing.
-use Prim.Native.Nat.{ℕ, zero, suc, _+_, _*_}
+use Prim.Native.Nat.{ℕ, zero, suc, _+_, _-_, _*_, _/_, _%_}
 use mathlib.Core.Path.{_≡_}
 use mathlib.Core.Bool.{Bool, true, false, cond}
-use mathlib.Core.List.{List, [], _∷_}
-use lib.Dec.{leb, ltb, eqb}
-use lib.ListN.{length}
+use mathlib.Core.List.{List, _∷_}
+use lib.Dec.{leb, eqb}
+use lib.ListN.{length, getD}
 use Rattle.bits.specs.Verdict.{Verdict, accepted, needs, declined, within, andThen}
 use Rattle.bits.specs.Field.{field}
-use Rattle.bits.specs.Number.{widthOf}
+use Rattle.bits.specs.Number.{below, ranOn, widthOf}
 use Rattle.bits.specs.Header.{Item, listEnd, box, sizedAt, headerAt}
-use Rattle.payload.specs.Mesh.{Submesh, Mesh}
+use Rattle.payload.specs.Mesh.{Mesh}
 use Rattle.payload.specs.Run.{Found, complete, readRun, shift, nextOf, before, one, five}
 use Rattle.payload.specs.MeshSpells.{aligned, verticesAt, part, meshType}
 use Rattle.payload.specs.MeshRead.{inRange, many, readSubmesh, submeshOf, readSubmeshes, meshOf, afterVertices, afterCounts, afterPoolCount, readMesh, readItem, readBoxes, readFrom, readMeshes}
@@ -47,14 +47,23 @@ settled-many read h (suc n) p =
 
 -- ---- kind 2, from a run up to the list of boxes
 
+settled-next : (limit last f : ℕ) → Settled (ranOn limit last f)
+unfolding ranOn within
+settled-next limit last f =
+    let up = last + f / 2 in
+    let down = last - (f + 1) / 2 in
+    settled-cond (eqb (f % 2) 0) (below limit up) (cond (leb ((f + 1) / 2) last) (below limit down) (declined 8))
+    (settled-cond (leb (up + 1) limit) (accepted up) (declined 8) tt tt)
+    (settled-cond (leb ((f + 1) / 2) last) (below limit down) (declined 8) (settled-cond (leb (down + 1) limit) (accepted down) (declined 8) tt tt) tt)
+
 settled-run : (s : List ℕ) (w limit n p : ℕ) (prior : List ℕ) → Settled (readRun s w limit n p prior)
 unfolding readRun
 settled-run s w limit zero p prior = tt
 settled-run s w limit (suc n) p prior =
-    let next = nextOf s w p prior in
-    let rest = readRun s w limit n (p + w) (shift prior next) in
-    settled-complete s (p + w) (cond (ltb next limit) (before next rest) (declined 8))
-    (settled-cond (ltb next limit) (before next rest) (declined 8) (settled-then rest (λ x. accepted (next ∷ x .0, x .1)) (settled-run s w limit n (p + w) (shift prior next)) (λ x. tt)) tt)
+    let rest : ℕ → Found (List ℕ) = λ next. readRun s w limit n (p + w) (shift prior next) in
+    settled-complete s (p + w) (andThen (nextOf s w limit p prior) (λ next. before next (rest next)))
+    (settled-then (nextOf s w limit p prior) (λ next. before next (rest next)) (settled-next limit (getD prior 0 0) (field s p w))
+    (λ next. settled-then (rest next) (λ x. accepted (next ∷ x .0, x .1)) (settled-run s w limit n (p + w) (shift prior next)) (λ x. tt)))
 
 settled-submesh : (s : List ℕ) (w m p : ℕ) → Settled (readSubmesh s w m p)
 unfolding readSubmesh

@@ -1,20 +1,20 @@
 -- What a run that was read tells of its next fields: one, three of one running number, five of five. Assumes nothing.
 use Prim.Native.Nat.{ℕ, zero, suc, _+_, _-_, _*_, _≤_, _<_}
-use mathlib.Core.Path.{_≡_, refl, ap, _∙_}
+use mathlib.Core.Path.{_≡_, refl, sym, ap, _∙_}
 use mathlib.Core.List.{List, [], _∷_, _++_}
 use native.Mathlib.Omega.{arith}
-use native.Mathlib.Decide.{decLe, decLt}
-use lib.ListN.{length}
+use lib.ListN.{length, getD}
 use Rattle.bits.specs.Verdict.{Verdict, accepted, needs, declined}
 use Rattle.bits.specs.Field.{field}
 use Rattle.bits.specs.Number.{steppedTo}
-use Rattle.payload.specs.Run.{Found, shift, nextOf, before, readRun}
+use Rattle.bits.proofs.NumberLaws.{ran-moves, moves-stepped}
+use Rattle.payload.specs.Run.{shift, readRun}
 use Rattle.payload.specs.Internal.{queue, queueNext, AllBelow, SteppedBy, Stepped5, WasRead, runNumbers}
 use Rattle.payload.specs.declared.mesh.Five.{Five}
 use Rattle.payload.specs.declared.mesh.FiveNext.{FiveNext}
 use Rattle.payload.specs.declared.mesh.Three.{Three}
 use Rattle.payload.specs.declared.mesh.Two.{Two}
-use Rattle.payload.proofs.RunLaws.{run-short, run-out, run-on}
+use Rattle.payload.proofs.RunLaws.{run-first}
 
 -- what was declined was not read
 pub not-read : {A : Type 0} (v : Verdict A) (k : ℕ) → v ≡ declined k → WasRead v → ⊥
@@ -25,11 +25,6 @@ pub read-value : {A : Type 0} (v : Verdict A) → WasRead v → (a : A) × (v �
 read-value (accepted a) r = (a, refl)
 read-value (needs l) r = absurd r
 read-value (declined k) r = absurd r
-
-numbers-before : (n : ℕ) (v : Found (List ℕ)) → WasRead (before n v) → (runNumbers (before n v) ≡ n ∷ runNumbers v) × WasRead v
-numbers-before n (accepted x) r = (refl, tt)
-numbers-before n (needs l) r = absurd r
-numbers-before n (declined k) r = absurd r
 
 -- nothing is left
 pub numbers-end : (s : List ℕ) (w limit n p : ℕ) (prior : List ℕ) → n ≤ 0 → runNumbers (readRun s w limit n p prior) ≡ []
@@ -44,20 +39,21 @@ pub record Turn (s : List ℕ) (w limit n p : ℕ) (prior : List ℕ) (r : ℕ) 
   pub is : runNumbers (readRun s w limit n p prior) ≡ r ∷ runNumbers (readRun s w limit (n - 1) (p + w) (shift prior r))
   pub rest : WasRead (readRun s w limit (n - 1) (p + w) (shift prior r))
 
-pub turn : (s : List ℕ) (w limit n p : ℕ) (prior : List ℕ) → 0 < n → WasRead (readRun s w limit n p prior) → Turn s w limit n p prior (nextOf s w p prior)
+pub turn : (s : List ℕ) (w limit n p : ℕ) (prior : List ℕ) → 0 < n → WasRead (readRun s w limit n p prior)
+    → Turn s w limit n p prior (steppedTo (getD prior 0 0) (field s p w))
 turn s w limit zero p prior o m = absurd (omega arith)
-turn s w limit (suc n) p prior o m = go (decLe (p + w) (8 * length s)) (decLt (nextOf s w p prior) limit)
+turn s w limit (suc n) p prior o m = let v = read-value (readRun s w limit (suc n) p prior) m in go (v .0 .0) (v .0 .1) (v .1)
   where
     z : suc n - 1 ≡ n
     z = omega arith
 
-    go : Dec (p + w ≤ 8 * length s) → Dec (nextOf s w p prior < limit) → Turn s w limit (suc n) p prior (nextOf s w p prior)
-    go (yes h) (yes l) =
-        let e = run-on s w limit n p prior h l in
-        let b = numbers-before (nextOf s w p prior) (readRun s w limit n (p + w) (shift prior (nextOf s w p prior))) (rw e at m) in
-        record { room = h; below = l; is = rw (z, e) (b .0); rest = rw z (b .1) }
-    go (yes h) (no l) = absurd (not-read (readRun s w limit (suc n) p prior) 8 (run-out s w limit n p prior h (omega arith)) m)
-    go (no h) d = absurd (not-read (readRun s w limit (suc n) p prior) 3 (run-short s w limit n p prior (omega arith)) m)
+    go : (ns : List ℕ) (q : ℕ) → readRun s w limit (suc n) p prior ≡ accepted (ns, q) → Turn s w limit (suc n) p prior (steppedTo (getD prior 0 0) (field s p w))
+    go ns q e =
+        let f = run-first s w limit n p prior ns q e in
+        let r = ran-moves (getD prior 0 0) (field s p w) limit (f .next) (f .ran) in
+        let is : runNumbers (readRun s w limit (suc n) p prior) ≡ f .next ∷ runNumbers (readRun s w limit (suc n - 1) (p + w) (shift prior (f .next))) =
+            ap runNumbers e ∙ f .cons ∙ ap (λ v. f .next ∷ runNumbers v) (sym (f .rest)) ∙ ap (λ (k : ℕ). f .next ∷ runNumbers (readRun s w limit k (p + w) (shift prior (f .next)))) (sym z) in
+        rw (moves-stepped (getD prior 0 0) (field s p w) (f .next) (r .0)) (record { room = f .room; below = r .1; is = is; rest = rw (z, f .rest) tt })
 
 -- as many numbers as fields
 pub length-numbers : (s : List ℕ) (w limit n p : ℕ) (prior : List ℕ) → WasRead (readRun s w limit n p prior) → length (runNumbers (readRun s w limit n p prior)) ≡ n
@@ -65,14 +61,14 @@ length-numbers s w limit zero p prior m = rw (numbers-end s w limit zero p prior
 length-numbers s w limit (suc n) p prior m =
     let t = turn s w limit (suc n) p prior (omega arith) m in
     let z : suc n - 1 ≡ n = omega arith in
-    rw (t .is, z) (ap suc (length-numbers s w limit n (p + w) (shift prior (nextOf s w p prior)) (rw z at (t .rest))))
+    rw (t .is, z) (ap suc (length-numbers s w limit n (p + w) (shift prior _) (rw z at (t .rest))))
 
 -- the next g fields lie within the bytes, where the first starts there
 pub reach : (s : List ℕ) (w limit g n p : ℕ) (prior : List ℕ) → g ≤ n → p ≤ 8 * length s → WasRead (readRun s w limit n p prior) → p + g * w ≤ 8 * length s
 reach s w limit zero n p prior o h m = omega arith
 reach s w limit (suc g) n p prior o h m =
     let t = turn s w limit n p prior (omega arith) m in
-    let i = reach s w limit g (n - 1) (p + w) (shift prior (nextOf s w p prior)) (omega arith) (t .room) (t .rest) in
+    let i = reach s w limit g (n - 1) (p + w) (shift prior _) (omega arith) (t .room) (t .rest) in
     omega arith
 
 -- the same of one field or more, wherever it starts

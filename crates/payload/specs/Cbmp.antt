@@ -8,7 +8,7 @@ use lib.Dec.{leb, eqb}
 use Rattle.bits.specs.Verdict.{Verdict, accepted, declined, within, andThen}
 use Rattle.bits.specs.Field.{field}
 use Rattle.bits.specs.Read.{numberAt}
-use Rattle.payload.specs.Payload.{limited, fullBox}
+use Rattle.payload.specs.Payload.{fullBox}
 use Rattle.payload.specs.Words.{wordBytes}
 use Rattle.payload.specs.declared.cbmp.CbmpAnswer.{CbmpAnswer}
 use Rattle.payload.specs.declared.cbmp.CbmpAnswer.the-variants as A

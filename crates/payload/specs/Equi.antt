@@ -4,12 +4,12 @@ use mathlib.Core.Path.{_≡_}
 use mathlib.Core.List.{List, [], _∷_}
 use mathlib.Core.Bool.{true, cond}
 use lib.ListN.{length}
-use Rattle.bits.specs.Verdict.{Verdict, accepted, declined, andThen, mapped}
+use Rattle.bits.specs.Verdict.{Verdict, accepted, declined, andThen}
 use Rattle.bits.specs.Field.{field}
 use Rattle.bits.specs.Read.{numberAt}
 use Rattle.bits.specs.Float.{scaled}
 use Rattle.payload.specs.Crop.{usable}
-use Rattle.payload.specs.Payload.{limited, fullBox}
+use Rattle.payload.specs.Payload.{fullBox}
 use Rattle.payload.specs.Words.{wordBytes}
 use Rattle.payload.specs.declared.crop.Bounds.{Bounds}
 use Rattle.payload.specs.declared.equi.EquiFields.{EquiFields}

@@ -1,7 +1,6 @@
 -- The readings of kind 2.
 use Prim.Native.Nat.{ℕ}
-use mathlib.Core.List.{List, [], _∷_}
-use lib.ListN.{length}
+use mathlib.Core.List.{List}
 
 -- a texture byte, a mode byte and vertex numbers
 pub record Submesh : Type 0 where

@@ -2,11 +2,11 @@
 use Prim.Native.Nat.{ℕ, zero, suc, _+_, _*_, _≤_, _<_}
 use mathlib.Core.List.{List, [], _∷_, _++_}
 use mathlib.Core.Bool.{cond}
-use lib.Dec.{leb, ltb}
+use lib.Dec.{leb}
 use lib.ListN.{length, getD, drop}
-use Rattle.bits.specs.Verdict.{Verdict, accepted, declined, mapped}
+use Rattle.bits.specs.Verdict.{Verdict, accepted, declined, andThen, mapped}
 use Rattle.bits.specs.Field.{field}
-use Rattle.bits.specs.Number.{Moves, steppedTo}
+use Rattle.bits.specs.Number.{Moves, ranOn}
 
 -- ---- the layout
 
@@ -31,9 +31,9 @@ complete s e v = cond (leb e (8 * length s)) v (declined 3)
 abbrev pub shift : List ℕ → ℕ → List ℕ
 shift prior next = drop 1 prior ++ (next ∷ [])
 
--- where the field at bit p takes the running number at the front: below 0 it is far above every limit
-abbrev pub nextOf : List ℕ → ℕ → ℕ → List ℕ → ℕ
-nextOf s w p prior = steppedTo (getD prior 0 0) (field s p w)
+-- where the field at bit p takes the running number at the front: 8 where it leaves the limit
+abbrev pub nextOf : List ℕ → ℕ → ℕ → ℕ → List ℕ → Verdict ℕ
+nextOf s w limit p prior = ranOn limit (getD prior 0 0) (field s p w)
 
 -- one more number in front of those that were found
 abbrev pub before : ℕ → Found (List ℕ) → Found (List ℕ)
@@ -43,9 +43,7 @@ before n v = mapped (λ x. (n ∷ x .0, x .1)) v
 unfoldable pub readRun : List ℕ → ℕ → ℕ → ℕ → ℕ → List ℕ → Found (List ℕ)
 readRun s w limit zero p prior = accepted ([], p)
 readRun s w limit (suc n) p prior =
-    let next = nextOf s w p prior in
-    let rest = readRun s w limit n (p + w) (shift prior next) in
-    complete s (p + w) (cond (ltb next limit) (before next rest) (declined 8))
+    complete s (p + w) (andThen (nextOf s w limit p prior) (λ next. before next (readRun s w limit n (p + w) (shift prior next))))
 
 -- one running number, and five, at their start
 abbrev pub one : List ℕ

@@ -7,7 +7,6 @@ use lib.Ieee.{Float, binary32, ofBits, lt, le}
 use lib.Ieee.Scale.{finite}
 use Rattle.payload.specs.Float.{f0, f¼, f½, f1, _⊘_}
 use Rattle.payload.specs.Crop.{full}
-use Rattle.payload.specs.declared.crop.Bounds.{Bounds}
 use Rattle.payload.specs.declared.view.StereoLayout.{StereoLayout}
 use Rattle.payload.specs.declared.view.StereoLayout.the-variants as S
 use Rattle.payload.specs.declared.view.AnaglyphPair.{AnaglyphPair}

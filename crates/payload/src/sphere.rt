@@ -4,7 +4,6 @@ use super::answers::GridLengths;
 use super::crop::Bounds;
 use super::put_triangle;
 ghost use mathlib.Core.Path.{_≡_};
-ghost use mathlib.Core.List.{[], _∷_};
 ghost use mathlib.Core.Bool.{true};
 ghost use Prim.Native.Nat.{_+_, _≤_, _<_};
 ghost use lib.ListN.{length};

@@ -1,19 +1,18 @@
 -- Words stored one after the other from place 0 on, and what is answered with them. Assumes nothing.
 use mathlib.Core.Path.{_≡_, refl, sym, ap, ap₂, _∙_}
 use mathlib.Core.List.{List, [], _∷_}
-use Prim.Native.Nat.{ℕ, zero, suc, zero-le, _+_, _^_, _≤_, _<_}
+use Prim.Native.Nat.{ℕ, zero-le, _+_, _^_, _≤_, _<_}
 use native.Mathlib.Numerals.{add-one}
 use native.Mathlib.Omega.{arith}
 use lib.ListN.{length, getD, set, take}
 use lib.Seq.{sets, length-take-le, take-suc, take-all}
-use borrow.Author.Tests.{le-leb, lt-leb, lt-ltb}
+use borrow.Author.Tests.{le-leb, lt-leb}
 use Rattle.payload.proofs.FillLaws.{sets-append}
-use lib.IntN.{ℤ, pos, negsuc, negℤ, _-ℤ_}
-use lib.Signed.{mag}
+use lib.IntN.{pos, negsuc, _-ℤ_}
 use mir.Syntax.{w64}
-use mir.Val.{SFits, toZ, ofZ}
-use mir.Facts.{toZ-ofZ, toZ-pos}
+use mir.Val.{toZ, ofZ}
 use Rattle.bits.specs.Verdict.{Verdict, accepted, needs, declined}
+use Rattle.bits.proofs.BelowLaws.{below-zero}
 use Rattle.probe.specs.Answer.{answers, leaves, stored}
 use Rattle.probe.proofs.Handed.{Tells}
 
@@ -47,21 +46,6 @@ module _ (d l ws : List ℕ) {v : Verdict (List ℕ)} where
   tells-needs e s = rw e (refl, s)
 
 -- the number of a refusal, below 0
-from-zero : (k : ℕ) → pos 0 -ℤ pos k ≡ negℤ (pos k)
-from-zero zero = refl
-from-zero (suc k) = rw (lt-ltb 0 (suc k) (omega arith)) (ap negsuc (omega arith))
-
-near : (k : ℕ) → k < 2 ^ 8 → mag (negℤ (pos k)) < 2 ^ 63
-near zero h = omega arith
-near (suc k) h = omega arith
-
-module _ (k : ℕ) (small : k < 2 ^ 8) where
-  below : pos 0 -ℤ toZ w64 k ≡ negℤ (pos k)
-  below = ap (λ (z : ℤ). pos 0 -ℤ z) (toZ-pos w64 {n = k} (omega arith)) ∙ from-zero k
-
-  pub below-fits : SFits w64 (pos 0 -ℤ toZ w64 k)
-  below-fits = rw below (record { sfits = near k small })
-
-  pub tells-declined : (d : List ℕ) {v : Verdict (List ℕ)} → v ≡ declined k → Tells (toZ w64 (ofZ w64 (pos 0 -ℤ toZ w64 k))) d d v
-  unfolding answers leaves
-  tells-declined d e = rw e (toZ-ofZ below-fits ∙ below, refl)
+pub tells-declined : (k : ℕ) → k < 2 ^ 8 → (d : List ℕ) {v : Verdict (List ℕ)} → v ≡ declined k → Tells (toZ w64 (ofZ w64 (pos 0 -ℤ toZ w64 k))) d d v
+unfolding answers leaves
+tells-declined k small d e = rw e (below-zero k small, refl)

@@ -1,7 +1,6 @@
 -- The words of a scene's answer: its kind, up to four words of what it names, and the three lengths.
 use Prim.Native.Nat.{ℕ}
 use mathlib.Core.List.{List, [], _∷_, _++_}
-use Rattle.bits.specs.Float.{bitsOf}
 use Rattle.scene.specs.Scene.{Named, crop, padding, counts, threeOf}
 use Rattle.scene.specs.declared.Lengths.{Lengths}
 use Rattle.probe.specs.Shown.{sideWords}

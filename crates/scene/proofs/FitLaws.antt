@@ -1,17 +1,16 @@
 -- A drawing and three buffers: whether it fits, what is said, and what is left in a buffer. Assumes nothing.
 use Prim.Native.Nat.{ℕ, _≤_, _<_}
-use mathlib.Core.Path.{_≡_, refl, sym, ap, _∙_}
+use mathlib.Core.Path.{_≡_, refl, ap}
 use mathlib.Core.List.{List, [], _∷_, _++_}
 use mathlib.Core.Bool.{Bool, true, false, cond, _&&_}
 use native.Mathlib.Omega.{arith}
 use lib.Dec.{leb}
 use lib.ListN.{length, drop}
 use borrow.Author.Tests.{le-leb, lt-leb}
-use Rattle.bits.specs.Verdict.{Verdict, accepted, needs, declined, andThen}
+use Rattle.bits.specs.Verdict.{Verdict, accepted, needs, declined}
 use Rattle.bits.proofs.VerdictLaws.{then-value}
 use Rattle.payload.specs.Fill.{begun}
 use Rattle.scene.specs.Scene.{Named, Drawing, fits, lengthsOf, threeOf, fitted, fittedAnswer, drawnPart, recordsOf}
-use Rattle.scene.specs.declared.Lengths.{Lengths}
 use Rattle.scene.specs.Laws.{Accepted}
 
 module _ (d : Drawing) (n f r : ℕ) where

@@ -6,7 +6,7 @@ use mathlib.Core.Bool.{true, false}
 use native.Mathlib.Omega.{arith}
 use lib.ListN.{length, drop}
 use borrow.Author.Tests.{le-leb}
-use Rattle.bits.specs.Verdict.{Verdict, accepted, needs, declined, andThen, mapped}
+use Rattle.bits.specs.Verdict.{Verdict, accepted, needs, declined}
 use Rattle.payload.specs.Fill.{front, bothLengths}
 use Rattle.scene.specs.Scene.{Named, Drawing, fits, lengthsOf, threeOf, fittedAnswer, drawnPart, numbersOf, floatsOf}
 use Rattle.scene.specs.Internal.{gridFound}

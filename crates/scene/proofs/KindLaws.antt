@@ -1,22 +1,22 @@
 -- Each kind: what its reader's answer makes of the scene, and that it is read exactly where a drawable reading spells it. Assumes nothing.
-use Prim.Native.Nat.{ℕ, _+_, _*_, _≤_, _<_}
+use Prim.Native.Nat.{ℕ, _≤_, _<_}
 use mathlib.Core.Path.{_≡_, refl, sym, ap, _∙_}
 use mathlib.Core.List.{List, [], _∷_}
 use mathlib.Core.Bool.{Bool, true, false, cond, _&&_}
-use mathlib.Core.Logic.{_↔_, _⊎_, inl, inr}
+use mathlib.Core.Logic.{_⊎_, inl, inr}
 use native.Mathlib.Omega.{arith}
-use lib.Dec.{leb, ltb, eqb}
+use lib.Dec.{leb, eqb}
 use lib.ListN.{length}
 use lib.Ieee.{Float, eq, ofBits, le, lt}
 use lib.Ieee.Scale.{finite}
-use borrow.Author.Tests.{le-leb, lt-leb, leb-true, lt-ltb, le-ltb, ltb-true, eq-eqb, ne-eqb}
+use borrow.Author.Tests.{ne-eqb}
 use Rattle.bits.specs.Verdict.{Verdict, accepted, needs, declined, andThen, mapped}
 use Rattle.bits.proofs.VerdictLaws.{le-or-lt, then-value, then-yes, then-no, then-declined, mapped-value, mapped-declined}
 use Rattle.payload.specs.Float.{f0, f1, ratio}
 use Rattle.payload.specs.Payload.{limited}
 use Rattle.payload.specs.Crop.{usable}
-use Rattle.payload.specs.Equi.{EquiSpells, cropOf, equiFields, equiUsable, equiRead, withCrop}
-use Rattle.payload.specs.Cbmp.{CbmpSpells, cbmpRead}
+use Rattle.payload.specs.Equi.{cropOf, equiFields, equiUsable, equiRead, withCrop}
+use Rattle.payload.specs.Cbmp.{cbmpRead}
 use Rattle.payload.specs.Sphere.{gridUsable, gridTriangles, gridUvs, sphereNumbers, sphereUvs}
 use Rattle.payload.specs.Cube.{cellsUsable, shareUsable, cubeTriangles, cubePoints, cubeNumbers, cubeFloats}
 use Rattle.payload.specs.Mesh.{Mesh}
@@ -27,11 +27,8 @@ use Rattle.payload.specs.Meshes.{listSize, fitsIn, drawnAnswer, meshesAnswer, d
 use Rattle.payload.specs.declared.crop.Bounds.{Bounds}
 use Rattle.payload.specs.declared.equi.EquiFields.{EquiFields}
 use Rattle.payload.proofs.PayloadLaws.{limited-yes, limited-no}
-use Rattle.payload.proofs.EquiLaws.{equi-reads, fields-refusal}
-use Rattle.payload.proofs.CbmpLaws.{cbmp-reads}
-use Rattle.payload.proofs.ShareProofs.{share-laws}
-use Rattle.payload.proofs.MeshTheorems.{meshes-reads}
-use Rattle.scene.specs.Scene.{Kind, equi, cbmp, mesh, Reading, Spells, Given, given, GridLimits, CubeLimits, InLimits, Drawable, Named, crop, padding, Drawing, drawing, nameOf, readEqui, cubeUsable, readCbmp, readKind, foundAs, fits, lengthsOf, threeOf, fittedAnswer, drawnPart}
+use Rattle.payload.proofs.EquiLaws.{fields-refusal}
+use Rattle.scene.specs.Scene.{equi, cbmp, mesh, Given, given, Named, crop, padding, Drawing, drawing, nameOf, readEqui, cubeUsable, readCbmp, foundAs, fits, lengthsOf, threeOf, fittedAnswer, drawnPart}
 use Rattle.scene.specs.Internal.{gridFound, afterGrid, meshesAs, faceShare}
 use Rattle.scene.proofs.FitLaws.{NoRecords}
 

@@ -8,7 +8,7 @@ use lib.Ieee.{add, sum, div, round, units, odd, size, span, climb, ofInt, ofBits
 use lib.Ieee.Scale.{finite}
 use Rattle.bits.specs.Verdict.{Verdict, declined, accepted, within, mapped}
 use Rattle.bits.specs.Field.{bitAt, field}
-use Rattle.bits.specs.Number.{steppedTo, leastFrom, widthOf}
+use Rattle.bits.specs.Number.{ranOn, leastFrom, widthOf}
 use Rattle.bits.specs.Header.{sizedAt, headerAt}
 use Rattle.bits.proofs.VerdictLaws.{then-yes, then-no}
 use Rattle.payload.specs.Payload.{limited, fullBox}
@@ -33,7 +33,7 @@ two-next kind k e g s h n f r =
     (then-yes (kindOf kind) (λ q. foundAs q g s) k e ∙ limited-no s (mapped (λ ρ. (nameOf k ρ, drawing k g ρ)) (readKind k g s)) h)
 
 pub scene-order : SceneOrder
-unfolding kindOf limited fullBox fourWords equiFields equiUsable readEqui gridUsable usable sideUsable cropOf cbmpRead layoutThenPadding cubeUsable cellsUsable shareUsable finite within field bitAt fits readFrom readBoxes readMesh afterPoolCount afterCounts afterVertices readWords readSubmeshes readSubmesh many inRange complete readRun headerAt sizedAt widthOf leastFrom steppedTo drawnNumbers drawnFloats submeshWords runWords submeshRecords recordsFrom add sum div round units odd size span climb ofInt ofBits ofFields lt le eq trailingZeros
+unfolding kindOf limited fullBox fourWords equiFields equiUsable readEqui gridUsable usable sideUsable cropOf cbmpRead layoutThenPadding cubeUsable cellsUsable shareUsable finite within field bitAt fits readFrom readBoxes readMesh afterPoolCount afterCounts afterVertices readWords readSubmeshes readSubmesh many inRange complete readRun headerAt sizedAt widthOf leastFrom ranOn drawnNumbers drawnFloats submeshWords runWords submeshRecords recordsFrom add sum div round units odd size span climb ofInt ofBits ofFields lt le eq trailingZeros
 scene-order =
     record {
       kind-0 = refl;

@@ -1,16 +1,15 @@
 -- The scene call from the calls of its kinds: which kind a number is, and what is then said and left in the three buffers. Assumes nothing.
-use Prim.Native.Nat.{ℕ, _≤_, _<_}
-use mathlib.Core.Path.{_≡_, refl, sym, ap, _∙_}
-use mathlib.Core.List.{List, []}
-use mathlib.Core.Bool.{Bool, true, false, cond, _&&_}
+use Prim.Native.Nat.{ℕ}
+use mathlib.Core.Path.{_≡_, refl, ap, _∙_}
+use mathlib.Core.List.{List}
+use mathlib.Core.Bool.{Bool, true, false, cond}
 use native.Mathlib.Omega.{arith}
-use lib.Dec.{leb, eqb}
 use lib.ListN.{length}
 use lib.Ieee.{Float, ofBits, add, eq, lt, le}
-use borrow.Author.Tests.{eq-eqb, ne-eqb}
-use Rattle.bits.specs.Verdict.{Verdict, accepted, needs, declined, andThen, mapped}
+use borrow.Author.Tests.{ne-eqb}
+use Rattle.bits.specs.Verdict.{Verdict, accepted, declined}
 use Rattle.bits.proofs.VerdictLaws.{then-yes, then-no}
-use Rattle.payload.specs.Float.{f0, f1, ratio}
+use Rattle.payload.specs.Float.{f0}
 use Rattle.payload.specs.Crop.{sideUsable, usable, full}
 use Rattle.payload.specs.Fill.{bothLengths}
 use Rattle.payload.specs.Payload.{limited}
@@ -19,7 +18,7 @@ use Rattle.payload.specs.MeshRead.{readMeshes}
 use Rattle.payload.specs.MeshDrawing.{drawnNumbers, drawnFloats, drawnRecords}
 use Rattle.payload.specs.Meshes.{meshesAnswer, drawnInto}
 use Rattle.payload.specs.declared.mesh.measure.MeshListSize.{MeshListSize}
-use Rattle.scene.specs.Scene.{Kind, equi, cbmp, mesh, kindOf, Given, given, Named, Drawing, drawing, nameOf, readEqui, readCbmp, foundAs, sceneFound, fittedAnswer, drawnPart, numbersOf, floatsOf, recordsOf}
+use Rattle.scene.specs.Scene.{equi, cbmp, mesh, kindOf, Given, given, Named, Drawing, drawing, nameOf, readEqui, readCbmp, foundAs, sceneFound, fittedAnswer, drawnPart, numbersOf, floatsOf, recordsOf}
 use Rattle.scene.specs.Internal.{afterGrid, meshesAs}
 use Rattle.scene.specs.declared.Lengths.{Lengths}
 use Rattle.scene.proofs.FitLaws.{NoRecords, any-answer, any-part, records-kept}

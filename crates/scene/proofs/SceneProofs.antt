@@ -2,21 +2,18 @@
 use Prim.Native.Nat.{ℕ, _+_, _*_, _≤_, _<_}
 use mathlib.Core.Path.{_≡_, refl, sym, ap, _∙_}
 use mathlib.Core.List.{List, _++_}
-use mathlib.Core.Bool.{Bool, true, false, cond, _&&_}
+use mathlib.Core.Bool.{Bool, true, false, cond}
 use mathlib.Core.Logic.{_↔_}
 use native.Mathlib.Omega.{arith}
-use lib.Dec.{leb, ltb}
+use lib.Dec.{ltb}
 use lib.ListN.{length, drop}
-use lib.Ieee.Scale.{finite}
 use borrow.Author.Tests.{le-leb, lt-ltb, ltb-true}
-use Rattle.bits.specs.Verdict.{Verdict, accepted, declined, andThen, mapped}
+use Rattle.bits.specs.Verdict.{accepted, declined, andThen, mapped}
 use Rattle.bits.proofs.VerdictLaws.{then-value, then-yes, mapped-value}
-use Rattle.payload.specs.Float.{ratio}
-use Rattle.payload.specs.Payload.{limited}
 use Rattle.payload.specs.Equi.{equiFields, equiUsable, equiRead}
 use Rattle.payload.specs.Cbmp.{CbmpSpells, cbmpRead}
 use Rattle.payload.specs.Sphere.{gridUsable}
-use Rattle.payload.specs.Cube.{cellsUsable, shareUsable}
+use Rattle.payload.specs.Cube.{cellsUsable}
 use Rattle.payload.proofs.PayloadLaws.{limited-yes}
 use Rattle.payload.proofs.EquiLaws.{equi-reads}
 use Rattle.payload.proofs.CbmpLaws.{cbmp-reads}

@@ -11,7 +11,6 @@ ghost use Prim.Native.Nat.{_+_, _*_, _%_, _^_, _≤_, _<_};
 ghost use lib.ListN.{length, getD};
 ghost use lib.Seq.{sets};
 ghost use Rattle.bits.specs.Put.{bytesOf};
-ghost use Rattle.payload.specs.Mesh.{Submesh};
 ghost use Rattle.payload.specs.Fill.{filledSays, answered, front};
 ghost use Rattle.payload.specs.MeshWrite.{stepField, wordFields, runFields, submeshFields, submeshesFields, vertexFields, boxSize, meshBox, submeshesOf, tablesMesh, isMesh, meshWritten};
 ghost use Rattle.payload.specs.Writing.{Ready, Advances, outcome, zeros, restFields, rowsFit};

@@ -3,7 +3,7 @@ use mathlib.Core.Path.{_≡_, sym}
 use Prim.Native.Nat.{_+_, _*_, _≤_}
 use native.Mathlib.Omega.{arith}
 use Rattle.bits.specs.Verdict.{accepted}
-use Rattle.payload.specs.Cube.{cubeTriangles, cubePoints, cubeNumbers, cubeFloats}
+use Rattle.payload.specs.Cube.{cubeTriangles, cubeNumbers, cubeFloats}
 use Rattle.payload.proofs.FillLaws.{both-first, both-second, both-yes}
 use Rattle.payload.proofs.CubeLaws.{square-small, length-triangles, length-points, cells-small, numbers-no, numbers-yes, floats-odd, floats-yes}
 use borrow.Author.Needs.{needs}

@@ -2,7 +2,7 @@
 use mathlib.Core.Path.{_≡_, sym, ap, _∙_}
 use mathlib.Core.List.{List}
 use Prim.Native.Nat.{ℕ}
-use Rattle.bits.specs.Verdict.{Verdict, accepted, declined}
+use Rattle.bits.specs.Verdict.{accepted, declined}
 use Rattle.bits.specs.Read.{numberAt, wordSays}
 use Rattle.payload.specs.Equi.{fourWords}
 use borrow.Author.Needs.{needs}

@@ -1,6 +1,6 @@
 -- `write_equi` meets its contract. Assumes nothing.
 use mathlib.Core.Path.{_≡_, sym, ap, _∙_}
-use mathlib.Core.Bool.{Bool, true, false, not}
+use mathlib.Core.Bool.{Bool, true, false}
 use Rattle.bits.specs.Verdict.{accepted, declined}
 use Rattle.payload.specs.Crop.{usable}
 use Rattle.payload.specs.Equi.{cropOf, equiBytes, equiWritten}

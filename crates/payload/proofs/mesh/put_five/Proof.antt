@@ -1,10 +1,6 @@
 -- `put_five` meets its contract: five stores in a row. Assumes nothing.
-use mathlib.Core.Path.{_≡_}
-use mathlib.Core.List.{List, [], _∷_}
-use Prim.Native.Nat.{ℕ, suc, _+_}
 use native.Mathlib.Omega.{arith}
-use lib.ListN.{set, length-set}
-use lib.Seq.{sets}
+use lib.ListN.{length-set}
 use Rattle.payload.proofs.FillLaws.{set-five}
 use borrow.Author.Needs.{needs}
 use Rattle.payload.proofs.mesh.put_five.Statement.{statement}

@@ -3,7 +3,8 @@ use mathlib.Core.Path.{ap}
 use mathlib.Core.List.{[]}
 use native.Mathlib.Omega.{arith}
 use Rattle.probe.specs.Answer.{says}
-use Rattle.probe.proofs.Stores.{stored-none, tells-words, tells-needs, tells-declined, below-fits}
+use Rattle.bits.proofs.BelowLaws.{below-fits}
+use Rattle.probe.proofs.Stores.{stored-none, tells-words, tells-needs, tells-declined}
 use borrow.Author.Needs.{needs}
 use Rattle.probe.proofs.reply.tell.Statement.{statement}
 use Rattle.probe.proofs.reply.tell.Tie as tie

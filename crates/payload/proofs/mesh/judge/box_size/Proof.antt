@@ -1,5 +1,4 @@
 -- `box_size` meets its contract: no sum wraps. Assumes nothing.
-use Prim.Native.Nat.{_-_}
 use native.Mathlib.Omega.{arith}
 use borrow.Author.Needs.{needs}
 use Rattle.payload.proofs.JudgeLaws.{bits-most}

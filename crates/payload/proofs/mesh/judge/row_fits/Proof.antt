@@ -1,5 +1,4 @@
 -- `row_fits` meets its contract. Assumes nothing.
-use Prim.Native.Nat.{_-_}
 use native.Mathlib.Omega.{arith}
 use borrow.Author.Tests.{lt-leb}
 use Rattle.payload.proofs.RowLaws.{row-no, row-yes}

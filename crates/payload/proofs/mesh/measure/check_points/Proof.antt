@@ -59,7 +59,8 @@ returns-2 c =
     let m = c .before in
     let l = m .before .before .before .loop in
     let a = m .before .before .before .before .before .before .args in
-    sym (l .inv .0 ∙ three-out₁ (a .s .now) (a .w) (a .limit) (l .left) (l .bit) (l .last) (m .stepped .result) 0 0 (omega arith) (fits (m .before .before) .0) (cc) (omega arith))
+    let q = m .before .before .before .before .before .before .pre in
+    sym (l .inv .0 ∙ three-out₁ (a .s .now) (a .w) (a .limit) (l .left) (l .bit) (l .last) (m .stepped .result) 0 0 (q .1) (q .2) (omega arith) (fits (m .before .before) .0) (cc) (omega arith))
 
 cast-stepped : tie.Need-cast-stepped Inv-loop μ-loop
 cast-stepped c = omega arith
@@ -72,9 +73,10 @@ returns-3 c =
     let m = c .before .before .before in
     let l = m .before .before .before .loop in
     let a = m .before .before .before .before .before .before .args in
+    let q = m .before .before .before .before .before .before .pre in
     sym
     (l .inv .0
-    ∙ three-out₂ (a .s .now) (a .w) (a .limit) (l .left) (l .bit) (l .last) (m .stepped .result) (c .before .stepped2 .result) 0 (omega arith) (fits (m .before .before) .0) (cc) (omega arith) (cc) (omega arith))
+    ∙ three-out₂ (a .s .now) (a .w) (a .limit) (l .left) (l .bit) (l .last) (m .stepped .result) (c .before .stepped2 .result) 0 (q .1) (q .2) (omega arith) (fits (m .before .before) .0) (cc) (omega arith) (cc) (omega arith))
 
 cast-stepped-2 : tie.Need-cast-stepped-2 Inv-loop μ-loop
 cast-stepped-2 c = omega arith
@@ -87,10 +89,11 @@ returns-4 c =
     let m = c .before .before .before .before .before in
     let l = m .before .before .before .loop in
     let a = m .before .before .before .before .before .before .args in
+    let q = m .before .before .before .before .before .before .pre in
     sym
     (l .inv .0
     ∙ three-out₃ (a .s .now) (a .w) (a .limit) (l .left) (l .bit) (l .last) (m .stepped .result) (c .before .before .before .stepped2 .result) (c .before .stepped3 .result)
-    (omega arith) (fits (m .before .before) .0) (cc) (omega arith) (cc) (omega arith) (cc) (omega arith))
+    (q .1) (q .2) (omega arith) (fits (m .before .before) .0) (cc) (omega arith) (cc) (omega arith) (cc) (omega arith))
 
 cast-last : tie.Need-cast-last Inv-loop μ-loop
 cast-last c = omega arith
@@ -109,10 +112,11 @@ loop-again c =
     let m = c .before .before .before .before .before in
     let l = m .before .before .before .loop in
     let a = m .before .before .before .before .before .before .args in
+    let q = m .before .before .before .before .before .before .pre in
     let f = fits (m .before .before) in (
       l .inv .0
           ∙ three-on (a .s .now) (a .w) (a .limit) (l .left) (l .bit) (l .last) (m .stepped .result) (c .before .before .before .stepped2 .result) (c .before .stepped3 .result)
-          (omega arith) (f .0) (cc) (omega arith) (cc) (omega arith) (cc) (omega arith),
+          (q .1) (q .2) (omega arith) (f .0) (cc) (omega arith) (cc) (omega arith) (cc) (omega arith),
       omega arith,
       f .1,
       omega arith,

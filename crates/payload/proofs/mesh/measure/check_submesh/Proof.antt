@@ -53,7 +53,7 @@ returns-4 c =
     let b = c .before .before .before in
     let a = b .before .before .before .before .before .before .args in
     let n = b .before .before .before .one-field in
-    submesh-says (a .s .now) (a .w) (a .m) (a .p) (omega arith) (omega arith) (n .result) _ (omega arith) (n .ensures) (omega arith) (omega arith)
+    submesh-says (a .s .now) (a .w) (a .m) (a .p) (n .result) _ (omega arith) (n .ensures) (omega arith) (omega arith)
     (ap runSays (sym (c .before .q .given .1)) ∙ b .check-points .ensures)
 
 returns-5 : tie.Need-returns-5
@@ -61,7 +61,7 @@ returns-5 c =
     let b = c .before .before .before in
     let a = b .before .before .before .before .before .before .args in
     let n = b .before .before .before .one-field in
-    submesh-says (a .s .now) (a .w) (a .m) (a .p) (omega arith) (omega arith) (n .result) _ (omega arith) (n .ensures) (omega arith) (omega arith)
+    submesh-says (a .s .now) (a .w) (a .m) (a .p) (n .result) _ (omega arith) (n .ensures) (omega arith) (omega arith)
     (ap runSays (sym (c .before .k .given .1)) ∙ b .check-points .ensures)
 
 pub check-submesh-spec : {M : Type 1} → statement M

@@ -19,7 +19,7 @@ abbrev μ-loop : tie.MeasureT-loop
 μ-loop s p w m count bit₀ points₀ left₀ bit points left = left
 
 loop-holds : tie.Need-loop-holds Inv-loop μ-loop
-loop-holds c = let a = c .before .args in (counted-all (a .s .now) (a .w) (a .m) (a .count) (a .p) (omega arith) (omega arith), omega arith, omega arith, omega arith)
+loop-holds c = let a = c .before .args in (counted-all (a .s .now) (a .w) (a .m) (a .count) (a .p), omega arith, omega arith, omega arith)
 
 check-submesh-requires : tie.Need-check-submesh-requires Inv-loop μ-loop
 check-submesh-requires c κs = omega arith
@@ -47,7 +47,7 @@ after c =
     let b = c .before .before .before in
     let a = b .before .before .before .before .args in
     let l = b .before .before .loop in
-    submesh-end (a .s .now) (a .w) (a .m) (l .bit) (omega arith) (omega arith) _ _ (omega arith) (ap submeshSays (sym (c .before .n .given .1)) ∙ b .check-submesh .ensures)
+    submesh-end (a .s .now) (a .w) (a .m) (l .bit) _ _ (omega arith) (ap submeshSays (sym (c .before .n .given .1)) ∙ b .check-submesh .ensures)
 
 add-points : tie.Need-add-points Inv-loop μ-loop
 add-points c = omega (arith, after c)

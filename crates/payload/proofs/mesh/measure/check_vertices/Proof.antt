@@ -90,32 +90,36 @@ returns-2 c =
     let m = c .before .before in
     let l = m .before .before .before .before .loop in
     let a = m .before .before .before .before .before .before .before .args in
+    let q = m .before .before .before .before .before .before .before .pre in
     let f = fits (m .before .before .before) in
-    sym (l .inv .0 ∙ five-out₁ (a .s .now) (a .w) (a .limit) (5 * l .left) (l .bit) (l .v) (m .step-five .result) (omega arith) (omega (arith, f .0)) (gets m) (omega arith))
+    sym (l .inv .0 ∙ five-out₁ (a .s .now) (a .w) (a .limit) (5 * l .left) (l .bit) (l .v) (m .step-five .result) (q .1) (q .2) (omega arith) (omega (arith, f .0)) (gets m) (omega arith))
 
 returns-3 : tie.Need-returns-3 Inv-loop μ-loop
 returns-3 c =
     let m = c .before .before .before .before in
     let l = m .before .before .before .before .loop in
     let a = m .before .before .before .before .before .before .before .args in
+    let q = m .before .before .before .before .before .before .before .pre in
     let f = fits (m .before .before .before) in
-    sym (l .inv .0 ∙ five-out₂ (a .s .now) (a .w) (a .limit) (5 * l .left) (l .bit) (l .v) (m .step-five .result) (omega arith) (omega (arith, f .0)) (gets m) (omega arith) (omega arith))
+    sym (l .inv .0 ∙ five-out₂ (a .s .now) (a .w) (a .limit) (5 * l .left) (l .bit) (l .v) (m .step-five .result) (q .1) (q .2) (omega arith) (omega (arith, f .0)) (gets m) (omega arith) (omega arith))
 
 returns-4 : tie.Need-returns-4 Inv-loop μ-loop
 returns-4 c =
     let m = c .before .before .before .before .before .before in
     let l = m .before .before .before .before .loop in
     let a = m .before .before .before .before .before .before .before .args in
+    let q = m .before .before .before .before .before .before .before .pre in
     let f = fits (m .before .before .before) in
-    sym (l .inv .0 ∙ five-out₃ (a .s .now) (a .w) (a .limit) (5 * l .left) (l .bit) (l .v) (m .step-five .result) (omega arith) (omega (arith, f .0)) (gets m) (omega arith) (omega arith) (omega arith))
+    sym (l .inv .0 ∙ five-out₃ (a .s .now) (a .w) (a .limit) (5 * l .left) (l .bit) (l .v) (m .step-five .result) (q .1) (q .2) (omega arith) (omega (arith, f .0)) (gets m) (omega arith) (omega arith) (omega arith))
 
 returns-5 : tie.Need-returns-5 Inv-loop μ-loop
 returns-5 c =
     let m = c .before .before .before .before .before .before .before .before in
     let l = m .before .before .before .before .loop in
     let a = m .before .before .before .before .before .before .before .args in
+    let q = m .before .before .before .before .before .before .before .pre in
     let f = fits (m .before .before .before) in
-    sym (l .inv .0 ∙ five-out₄ (a .s .now) (a .w) (a .limit) (5 * l .left) (l .bit) (l .v) (m .step-five .result) (omega arith) (omega (arith, f .0)) (gets m) (omega arith) (omega arith) (omega arith) (omega arith))
+    sym (l .inv .0 ∙ five-out₄ (a .s .now) (a .w) (a .limit) (5 * l .left) (l .bit) (l .v) (m .step-five .result) (q .1) (q .2) (omega arith) (omega (arith, f .0)) (gets m) (omega arith) (omega arith) (omega arith) (omega arith))
 
 returns-6 : tie.Need-returns-6 Inv-loop μ-loop
 returns-6 c =
@@ -126,8 +130,9 @@ returns-6 c =
     let m = e₂ .before .before in
     let l = m .before .before .before .before .loop in
     let a = m .before .before .before .before .before .before .before .args in
+    let q = m .before .before .before .before .before .before .before .pre in
     let f = fits (m .before .before .before) in
-    sym (l .inv .0 ∙ five-out₅ (a .s .now) (a .w) (a .limit) (5 * l .left) (l .bit) (l .v) (m .step-five .result) (omega arith) (omega (arith, f .0)) (gets m) (e₂ .if2 .left) (e₃ .if3 .left) (e₄ .if4 .left) (e₅ .if5 .left) (c .if6 .taken))
+    sym (l .inv .0 ∙ five-out₅ (a .s .now) (a .w) (a .limit) (5 * l .left) (l .bit) (l .v) (m .step-five .result) (q .1) (q .2) (omega arith) (omega (arith, f .0)) (gets m) (e₂ .if2 .left) (e₃ .if3 .left) (e₄ .if4 .left) (e₅ .if5 .left) (c .if6 .taken))
 
 kept-requires : tie.Need-kept-requires Inv-loop μ-loop
 kept-requires c κs =
@@ -159,11 +164,12 @@ loop-again c =
     let m = e₂ .before .before in
     let l = m .before .before .before .before .loop in
     let a = m .before .before .before .before .before .before .before .args in
+    let q = m .before .before .before .before .before .before .before .pre in
     let f = fits (m .before .before .before) in
     let t = m .before .before .before .loop-test .taken in
     let z : 5 * (l .left - 1) ≡ 5 * l .left - 5 = omega (arith, t) in (
       l .inv .0
-          ∙ five-on (a .s .now) (a .w) (a .limit) (5 * l .left) (l .bit) (l .v) (m .step-five .result) (omega (arith, t)) (omega (arith, f .0)) (gets m) (e₂ .if2 .left) (e₃ .if3 .left) (e₄ .if4 .left) (e₅ .if5 .left) (e₆ .if6 .left)
+          ∙ five-on (a .s .now) (a .w) (a .limit) (5 * l .left) (l .bit) (l .v) (m .step-five .result) (q .1) (q .2) (omega (arith, t)) (omega (arith, f .0)) (gets m) (e₂ .if2 .left) (e₃ .if3 .left) (e₄ .if4 .left) (e₅ .if5 .left) (e₆ .if6 .left)
           ∙ rw (z, c .kept .ensures),
       omega (arith, l .inv .1),
       omega (arith, f .1),

@@ -62,8 +62,9 @@ loop-less c = omega arith
 loop-again : tie.Need-loop-again Inv-loop μ-loop
 loop-again c =
     let a = c .before .before .before .before .before .before .before .args in
+    let q = c .before .before .before .before .before .before .before .pre in
     let l = c .before .before .before .before .before .loop in (
-      l .inv .0 ∙ one-on (a .s .now) (a .w) (a .limit) (l .left) (l .bit) (l .a) (l .b ∷ l .c ∷ l .d ∷ l .e ∷ []) (c .before .stepped .result) (omega arith) (omega arith) (cc) (omega arith),
+      l .inv .0 ∙ one-on (a .s .now) (a .w) (a .limit) (q .1) (q .2) (l .left) (l .bit) (l .a) (l .b ∷ l .c ∷ l .d ∷ l .e ∷ []) (c .before .stepped .result) (omega arith) (omega arith) (cc) (omega arith),
       omega arith,
       omega arith,
     )

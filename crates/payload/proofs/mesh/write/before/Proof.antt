@@ -1,5 +1,4 @@
 -- `before` meets its contract. Assumes nothing.
-use Prim.Native.Nat.{_-_}
 use borrow.Author.Needs.{needs}
 use Rattle.payload.proofs.PutRunLaws.{before-later, before-start}
 use Rattle.payload.proofs.mesh.write.before.Statement.{statement}

@@ -1,6 +1,5 @@
 -- `finish` meets its contract: the bits that wait are one field more. Assumes nothing.
 use mathlib.Core.Path.{_∙_}
-use Prim.Native.Nat.{_-_}
 use borrow.Author.Needs.{needs}
 use Rattle.payload.proofs.WriterLaws.{finish-is}
 use Rattle.payload.proofs.mesh.write.finish.Statement.{statement}

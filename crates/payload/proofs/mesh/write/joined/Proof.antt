@@ -1,5 +1,4 @@
 -- `joined` meets its contract: what is lost above was out already. Assumes nothing.
-use Prim.Native.Nat.{_-_}
 use borrow.Author.Needs.{needs}
 use Rattle.payload.proofs.WriterLaws.{joined-fits, joined-is}
 use Rattle.payload.proofs.mesh.write.joined.Statement.{statement}

@@ -1,6 +1,5 @@
 -- `put_box` meets its contract: the parts of a box, one after the other. Assumes nothing.
 use mathlib.Core.Path.{_∙_}
-use Prim.Native.Nat.{_-_}
 use native.Mathlib.Omega.{arith}
 use borrow.Author.Needs.{needs}
 use Rattle.payload.specs.Laws.{Words32}

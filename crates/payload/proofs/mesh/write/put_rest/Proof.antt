@@ -1,5 +1,4 @@
 -- `put_rest` meets its contract: three parts, one after the other. Assumes nothing.
-use Prim.Native.Nat.{_-_}
 use native.Mathlib.Omega.{arith}
 use borrow.Author.Needs.{needs}
 use Rattle.payload.proofs.RowLaws.{rows-count, width-fits}

@@ -1,6 +1,6 @@
 -- `put_run` meets its contract: the numbers that are left, each with the one before it. Assumes nothing.
 use mathlib.Core.List.{_++_}
-use Prim.Native.Nat.{_+_, _-_, _≤_}
+use Prim.Native.Nat.{_-_, _≤_}
 use native.Mathlib.Omega.{arith}
 use lib.ListN.{length, drop}
 use borrow.Author.Needs.{needs}

@@ -1,5 +1,4 @@
 -- `put_submesh` meets its contract: four parts, one after the other. Assumes nothing.
-use Prim.Native.Nat.{_-_}
 use native.Mathlib.Omega.{arith}
 use borrow.Author.Needs.{needs}
 use Rattle.payload.specs.MeshWrite.{submeshFields}

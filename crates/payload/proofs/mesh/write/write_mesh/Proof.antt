@@ -1,6 +1,6 @@
 -- `write_mesh` meets its contract. Assumes nothing.
 use mathlib.Core.Path.{sym, ap, _∙_, subst}
-use Prim.Native.Nat.{ℕ, _-_, _≤_}
+use Prim.Native.Nat.{ℕ, _≤_}
 use native.Mathlib.Nat.{div-one}
 use lib.ListN.{length}
 use lib.Seq.{sets}
