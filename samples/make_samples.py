@@ -2,7 +2,10 @@
 """Makes the sample payloads of this folder and the listings that meshlist must print for them.
 
 A sample NAME is NAME.bin (kind 2, raw bytes) and NAME.txt (the listing). The listings come from the descriptions below, not from a reader.
+A payload of kind 0 is NAME.equi, one of kind 1 NAME.cbmp; these have no listing.
 """
+import struct
+from math import cos, pi, sin
 from pathlib import Path
 
 HERE = Path(__file__).parent
@@ -76,6 +79,46 @@ def listing(meshes):
     return text + f"total {len(meshes)} {count} {first}\n"
 
 
+def word(x):
+    """The bits of the float next to x among the multiples of 1/4096, so that they do not depend on the last digit of a sine."""
+    return int.from_bytes(struct.pack(">f", round(x * 4096) / 4096 + 0.0), "big")
+
+
+def dome(texture, centre, turn, sectors=24, rings=5):
+    """Half a sphere seen by a fisheye lens: a fan in the middle, a strip for each further ring.
+
+    The lens looks along -z; its middle is at `centre` of the texture, and its picture is turned by `turn`.
+    """
+    places = [(0, 0)] + [(ring, sector) for ring in range(1, rings + 1) for sector in range(sectors)]
+    points = []
+    for ring, sector in places:
+        off, around = ring / rings * pi / 2, 2 * pi * sector / sectors
+        far = 0.29 * off + 0.004 * off**3
+        points.append((sin(off) * cos(around), sin(off) * sin(around), -cos(off),
+                       centre[0] + far * cos(around + turn), centre[1] + far * sin(around + turn)))
+    rows = [[word(x) for x in point] for point in points]
+    pool = sorted({x for row in rows for x in row})
+    numbers = {x: number for number, x in enumerate(pool)}
+    vertices = [tuple(numbers[x] for x in row) for row in rows]
+
+    def at(ring, sector):
+        return 1 + (ring - 1) * sectors + sector % sectors
+
+    fan = [0] + [at(1, sector) for sector in range(sectors + 1)]
+    strips = [[at(ring + far, sector) for sector in range(sectors + 1) for far in (0, 1)] for ring in range(1, rings)]
+    return pool, vertices, [(texture, 2, fan)] + [(texture, 1, strip) for strip in strips]
+
+
+def equi(*bounds):
+    """A payload of kind 0: top, bottom, left, right as shares of the sphere."""
+    return bytes(4) + b"".join(round(share * 2**32).to_bytes(4, "big") for share in bounds)
+
+
+def cbmp(padding):
+    """A payload of kind 1."""
+    return bytes(8) + padding.to_bytes(4, "big")
+
+
 def save(name, payload, text):
     (HERE / f"{name}.bin").write_bytes(payload)
     (HERE / f"{name}.txt").write_text(text)
@@ -100,3 +143,8 @@ save("refused_6", m1[:-1], "refused 6\n")
 save("refused_6_size_1", (1).to_bytes(4, "big") + m1[4:], "refused 6\n")
 save("refused_7", m1[:8] + (0).to_bytes(4, "big") + m1[12:], "refused 7\n")
 save("refused_8", m1[:38] + b"\x0f" + m1[39:], "refused 8\n")
+
+eyes = [dome(0, (0.49, 0.51), 0.0), dome(1, (0.52, 0.49), 0.06)]
+save("dome", b"".join(mesh(*eye) for eye in eyes), listing([eye[2] for eye in eyes]))
+(HERE / "crop.equi").write_bytes(equi(1 / 16, 1 / 8, 1 / 4, 1 / 4))
+(HERE / "cube.cbmp").write_bytes(cbmp(64))
