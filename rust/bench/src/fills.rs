@@ -38,6 +38,12 @@ pub fn table() -> Result<(), String> {
         rust_mesh,
         our_mesh,
     )?;
+    let name = "cubemap_indices 103";
+    let count = pano::cubemap_index_count(CELLS);
+    row(name, vec![0; count], rust_cube, our_cube)?;
+    let name = "sphere_indices 255 255";
+    let count = indices([0.0; 4]);
+    row(name, vec![0; count], rust_sphere, our_sphere)?;
     for (name, crop) in CROPS {
         row(
             name,
@@ -98,6 +104,26 @@ fn our_mesh(out: &mut [u32]) -> Option<u64> {
         out,
         &mut words,
     );
+    (code == 1).then_some(words[0])
+}
+
+fn rust_cube(out: &mut [u16]) -> Option<u64> {
+    pano::cubemap_indices(black_box(CELLS), out).map(|n| n as u64)
+}
+
+fn our_cube(out: &mut [u16]) -> Option<u64> {
+    let mut words = [0];
+    let code = probe_sys::cubemap_indices(black_box(CELLS), out, &mut words);
+    (code == 1).then_some(words[0])
+}
+
+fn rust_sphere(out: &mut [u16]) -> Option<u64> {
+    pano::sphere_indices(black_box(RINGS), black_box(SECTORS), out).map(|n| n as u64)
+}
+
+fn our_sphere(out: &mut [u16]) -> Option<u64> {
+    let mut words = [0];
+    let code = probe_sys::sphere_indices(black_box(RINGS), black_box(SECTORS), out, &mut words);
     (code == 1).then_some(words[0])
 }
 

@@ -10,6 +10,7 @@ mod mesh_box;
 mod mesh_lists;
 mod meshes;
 mod random;
+mod readers;
 mod scene;
 mod timing;
 mod writer;
@@ -33,6 +34,7 @@ fn run(words: &[&str]) -> Result<(), String> {
             fields::table,
             fills::table,
             meshes::table,
+            readers::table,
             writer::table,
             scene::table,
         ]
