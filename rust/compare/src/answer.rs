@@ -4,7 +4,7 @@ use std::fmt;
 
 use crate::random::Random;
 
-const MOST_STORED: usize = 8;
+pub const MOST_STORED: usize = 8;
 const ROOM: usize = MOST_STORED + 3;
 
 /// The answer that is due: its number, and the words that belong to it.
@@ -66,11 +66,20 @@ impl Answer {
         Answer::new(probe_sys::NOT_MADE, &[])
     }
 
+    pub fn code(&self) -> i64 {
+        self.code
+    }
+
+    /// Stores the words from the first lent one on, or nothing where fewer are lent.
+    pub fn store(&self, lent: &mut [u64]) {
+        if let Some(first) = lent.get_mut(..self.count) {
+            first.copy_from_slice(&self.stored[..self.count]);
+        }
+    }
+
     fn reply(&self, lent: usize) -> Reply {
         let mut words = pattern();
-        if self.count <= lent {
-            words[..self.count].copy_from_slice(&self.stored[..self.count]);
-        }
+        self.store(&mut words[..lent]);
         Reply {
             code: self.code,
             lent,

@@ -10,6 +10,10 @@ pub fn run(options: &Options) -> Vec<Tally> {
         "bit_width",
         "against mesh::bit_width",
         probe_sys::bit_width,
-        |count| i64::from(mesh::bit_width(count)),
+        due,
     )
+}
+
+pub fn due(count: u32) -> i64 {
+    i64::from(mesh::bit_width(count))
 }

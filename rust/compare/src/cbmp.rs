@@ -17,7 +17,7 @@ const LENGTH: usize = 12;
 const MOST_PADDING: u32 = 4096;
 const RANDOM: u32 = 1_000_000;
 /// Lengths to lend to the writer.
-const LENT: [usize; 5] = [0, 11, 12, 13, 40];
+pub const LENT: [usize; 5] = [0, 11, 12, 13, 40];
 
 pub fn run(options: &Options) -> Vec<Tally> {
     let what = "against mesh::parse_cbmp, with the number of its refusal";
@@ -53,7 +53,7 @@ pub fn payload(layout: u32, padding: u32) -> [u8; LENGTH] {
     bytes
 }
 
-fn random_payload(random: &mut Random) -> [u8; LENGTH] {
+pub fn random_payload(random: &mut Random) -> [u8; LENGTH] {
     let layout = match random.below(8) {
         0 => random.any_size() as u32,
         _ => 0,
@@ -107,10 +107,14 @@ pub fn padding(payload: &[u8]) -> Option<u32> {
     }
 }
 
+pub fn due(payload: &[u8]) -> Answer {
+    let padding = padding(payload).map(|padding| [u64::from(padding)]);
+    Answer::words_or(padding, refusal(payload))
+}
+
 fn check(tally: &mut Tally, payload: &[u8]) {
-    let due = padding(payload).map(|padding| [u64::from(padding)]);
     tally.call(
-        &Answer::words_or(due, refusal(payload)),
+        &due(payload),
         |words| probe_sys::parse_cbmp(payload, words),
         || shown(payload),
     );
@@ -124,7 +128,7 @@ fn written(tally: &mut Tally, random: &mut Random) {
     }
 }
 
-fn write_due(padding: u32, before: &[u8]) -> Due<u32> {
+pub fn write_due(padding: u32, before: &[u8]) -> Due<u32> {
     if padding > MOST_PADDING {
         return Due::unchanged(Answer::refused(OUT_OF_RANGE), before);
     }

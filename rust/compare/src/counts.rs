@@ -13,8 +13,8 @@ const NAME: &str = "counts";
 const TOO_MANY: i64 = 14;
 const RANDOM: u32 = 1_000_000;
 /// The last cells whose vertices, and whose indices, are fewer than 2^64.
-const LAST_VERTICES: u32 = 1_753_413_055;
-const LAST_INDICES: u32 = 715_827_882;
+pub const LAST_VERTICES: u32 = 1_753_413_055;
+pub const LAST_INDICES: u32 = 715_827_882;
 
 pub fn run(options: &Options) -> Vec<Tally> {
     let mut counts = Counts::new(options);
@@ -52,60 +52,81 @@ impl Counts {
         }
     }
 
-    /// Sectors around those at which the indices become too many.
     fn last_sectors(&mut self, rings: u32) {
-        let last = (1u128 << 64) / (6 * u128::from(rings.max(2)));
-        for sectors in last - 2..=last + 2 {
-            if let Ok(sectors) = u32::try_from(sectors) {
-                self.sphere(rings, sectors);
-            }
+        for sectors in sectors_around(rings) {
+            self.sphere(rings, sectors);
         }
     }
 
     fn sphere(&mut self, rings: u32, sectors: u32) {
-        let (r, s) = (u128::from(rings), u128::from(sectors));
         self.check(
-            (r + 1) * (s + 1),
-            pano::vertex_count(rings, sectors),
+            vertices_due(rings, sectors),
             |words| probe_sys::vertex_count(rings, sectors, words),
             ("vertex_count", rings, sectors),
         );
         self.check(
-            if rings < 2 { 0 } else { 6 * r * s },
-            pano::index_count(rings, sectors),
+            indices_due(rings, sectors),
             |words| probe_sys::index_count(rings, sectors, words),
             ("index_count", rings, sectors),
         );
     }
 
     fn cube(&mut self, cells: u32) {
-        let c = u128::from(cells);
         self.check(
-            6 * (c + 1) * (c + 1),
-            pano::cubemap_vertex_count(cells),
+            cube_vertices_due(cells),
             |words| probe_sys::cubemap_vertex_count(cells, words),
             ("cubemap_vertex_count", cells),
         );
         self.check(
-            36 * c * c,
-            pano::cubemap_index_count(cells),
+            cube_indices_due(cells),
             |words| probe_sys::cubemap_index_count(cells, words),
             ("cubemap_index_count", cells),
         );
     }
 
-    fn check(
-        &mut self,
-        exact: u128,
-        theirs: usize,
-        ours: impl FnOnce(&mut [u64]) -> i64,
-        input: impl Debug,
-    ) {
-        if exact >> 64 == 0 {
-            self.tally.call(&Answer::place(theirs), ours, || input);
-        } else {
-            let due = Answer::refused(TOO_MANY);
-            self.beyond.call(&due, ours, || input);
-        }
+    fn check(&mut self, due: Answer, ours: impl FnOnce(&mut [u64]) -> i64, input: impl Debug) {
+        let tally = match due.code() == -TOO_MANY {
+            false => &mut self.tally,
+            true => &mut self.beyond,
+        };
+        tally.call(&due, ours, || input);
     }
+}
+
+/// Sectors around those at which the indices become too many.
+pub fn sectors_around(rings: u32) -> impl Iterator<Item = u32> {
+    let last = (1u128 << 64) / (6 * u128::from(rings.max(2)));
+    (last - 2..=last + 2).filter_map(|sectors| u32::try_from(sectors).ok())
+}
+
+/// The Rust's count, which is not asked where it wraps.
+fn due(exact: u128, theirs: impl FnOnce() -> usize) -> Answer {
+    if exact >> 64 == 0 {
+        Answer::place(theirs())
+    } else {
+        Answer::refused(TOO_MANY)
+    }
+}
+
+pub fn vertices_due(rings: u32, sectors: u32) -> Answer {
+    let exact = (u128::from(rings) + 1) * (u128::from(sectors) + 1);
+    due(exact, || pano::vertex_count(rings, sectors))
+}
+
+pub fn indices_due(rings: u32, sectors: u32) -> Answer {
+    let exact = match rings {
+        0 | 1 => 0,
+        _ => 6 * u128::from(rings) * u128::from(sectors),
+    };
+    due(exact, || pano::index_count(rings, sectors))
+}
+
+pub fn cube_vertices_due(cells: u32) -> Answer {
+    let lines = u128::from(cells) + 1;
+    due(6 * lines * lines, || pano::cubemap_vertex_count(cells))
+}
+
+pub fn cube_indices_due(cells: u32) -> Answer {
+    let exact = 36 * u128::from(cells) * u128::from(cells);
+    due(exact, || pano::cubemap_index_count(cells))
 }

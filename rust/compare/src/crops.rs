@@ -33,7 +33,7 @@ pub fn bounds([top, bottom, left, right]: Crop) -> Bounds {
 }
 
 /// Floats around which a side, or a sum with another one, becomes usable or unusable.
-fn turns() -> Vec<f32> {
+pub fn turns() -> Vec<f32> {
     let least = [0, 1, 2, 0x007F_FFFF, 0x0080_0000, 0x0080_0001];
     // 2^-25 is half the distance from 1.0 to the float below it, 2^-24 all of it.
     let distances = [0x32FF_FFFF, 0x3300_0000, 0x3300_0001, 0x3380_0000];
@@ -84,8 +84,11 @@ fn sums(tally: &mut Tally, random: &mut Random) {
     }
 }
 
+pub fn due(crop: Crop) -> i64 {
+    i64::from(bounds(crop).is_usable())
+}
+
 fn check(tally: &mut Tally, crop: Crop) {
-    let due = bounds(crop).is_usable();
     let ours = probe_sys::is_usable(crop);
-    tally.check(ours, i64::from(due), || crop.map(f32::to_bits));
+    tally.check(ours, due(crop), || crop.map(f32::to_bits));
 }

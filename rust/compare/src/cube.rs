@@ -11,16 +11,16 @@ use crate::tally::Tally;
 const NAME: &str = "cube";
 const CELLS: i64 = 9;
 pub const NUMBERS: i64 = 11;
-const MOST_CELLS: u32 = 103;
+pub const MOST_CELLS: u32 = 103;
 /// From here on the Rust's counts wrap.
-const WRAPS: u32 = 715_827_883;
+pub const WRAPS: u32 = 715_827_883;
 /// Up to so many cells every radius is taken with every share.
 const FEW_CELLS: u32 = 12;
 const RANDOM: u32 = 20_000;
 /// Enough for a mesh of three cells.
 const LENT: usize = 6 * 16 * VERTEX_FLOATS;
 
-const RADII: [f32; 13] = [
+pub const RADII: [f32; 13] = [
     1.0,
     -1.0,
     0.0,
@@ -36,7 +36,7 @@ const RADII: [f32; 13] = [
     f32::NEG_INFINITY,
 ];
 
-const SHARES: [f32; 16] = [
+pub const SHARES: [f32; 16] = [
     0.0,
     -0.0,
     1e-45,
@@ -78,11 +78,7 @@ pub fn run(options: &Options) -> Vec<Tally> {
 fn make_indices(tally: &mut Tally, cells: u32) {
     for lent in lengths(indices_needed(cells)) {
         let mut after = before(lent);
-        let due = match pano::cubemap_indices(cells, &mut after) {
-            Some(count) => Answer::place(count),
-            None if !cells_usable(cells) => Answer::refused(CELLS),
-            None => Answer::needs(indices_needed(cells)),
-        };
+        let due = indices_due(cells, &mut after);
         fill::check(
             tally,
             &due,
@@ -90,6 +86,36 @@ fn make_indices(tally: &mut Tally, cells: u32) {
             |out, words| probe_sys::cubemap_indices(cells, out, words),
             || (cells, lent),
         );
+    }
+}
+
+/// The answer, and in `after` what becomes of a lent buffer.
+pub fn indices_due(cells: u32, after: &mut [u16]) -> Answer {
+    if cells >= WRAPS {
+        return Answer::refused(CELLS);
+    }
+    match pano::cubemap_indices(cells, after) {
+        Some(count) => Answer::place(count),
+        None if !cells_usable(cells) => Answer::refused(CELLS),
+        None => Answer::needs(indices_needed(cells)),
+    }
+}
+
+/// The same with a mesh. Its floats, and those that stand in `after`, are bits.
+pub fn mesh_due(cells: u32, radius: f32, share: f32, after: &mut [u32]) -> Answer {
+    if cells >= WRAPS {
+        return Answer::refused(CELLS);
+    }
+    let mut floats: Vec<f32> = after.iter().copied().map(f32::from_bits).collect();
+    let made = pano::cubemap_mesh(cells, radius, share, &mut floats);
+    for (item, x) in after.iter_mut().zip(floats) {
+        *item = x.to_bits();
+    }
+    match made {
+        Some(count) => Answer::place(count),
+        None if !cells_usable(cells) => Answer::refused(CELLS),
+        None if !numbers_usable(radius, share) => Answer::refused(NUMBERS),
+        None => Answer::needs(floats_needed(cells)),
     }
 }
 
@@ -139,7 +165,7 @@ fn numbers_usable(radius: f32, share: f32) -> bool {
 }
 
 /// The exact number of indices, or 0 for cells that are not usable.
-fn indices_needed(cells: u32) -> usize {
+pub fn indices_needed(cells: u32) -> usize {
     if cells_usable(cells) {
         pano::cubemap_index_count(cells)
     } else {
@@ -148,7 +174,7 @@ fn indices_needed(cells: u32) -> usize {
 }
 
 /// The exact number of floats, or 0 for cells that are not usable.
-fn floats_needed(cells: u32) -> usize {
+pub fn floats_needed(cells: u32) -> usize {
     if cells_usable(cells) {
         VERTEX_FLOATS * pano::cubemap_vertex_count(cells)
     } else {
@@ -163,14 +189,8 @@ fn make_mesh(tally: &mut Tally, cells: u32, radius: f32, share: f32) {
 }
 
 fn mesh_on(tally: &mut Tally, cells: u32, radius: f32, share: f32, lent: usize) {
-    let mut floats: Vec<f32> = before(lent).into_iter().map(f32::from_bits).collect();
-    let due = match pano::cubemap_mesh(cells, radius, share, &mut floats) {
-        Some(count) => Answer::place(count),
-        None if !cells_usable(cells) => Answer::refused(CELLS),
-        None if !numbers_usable(radius, share) => Answer::refused(NUMBERS),
-        None => Answer::needs(floats_needed(cells)),
-    };
-    let after: Vec<u32> = floats.into_iter().map(f32::to_bits).collect();
+    let mut after = before(lent);
+    let due = mesh_due(cells, radius, share, &mut after);
     fill::check(
         tally,
         &due,

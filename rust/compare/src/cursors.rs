@@ -36,9 +36,12 @@ pub fn run(options: &Options) -> Vec<Tally> {
     vec![tally, beyond]
 }
 
+pub fn new_due() -> Answer {
+    Answer::place(Reader::new(&[]).position())
+}
+
 fn new(tally: &mut Tally) {
-    let due = Reader::new(&[]).position();
-    tally.call(&Answer::place(due), probe_sys::byte_new, || "new");
+    tally.call(&new_due(), probe_sys::byte_new, || "new");
 }
 
 /// A reader at any place, also past the end.
@@ -51,9 +54,9 @@ fn reads(tally: &mut Tally, beyond: &mut Tally, data: &[u8], at: usize) {
     byte(tally, data, at);
     word(tally, data, at);
     if at <= data.len() {
-        remaining(tally, data, at, reader(data, at).remaining());
+        remaining(tally, data, at);
     } else {
-        remaining(beyond, data, at, 0);
+        remaining(beyond, data, at);
     }
 }
 
@@ -62,57 +65,85 @@ fn steps(tally: &mut Tally, data: &[u8], at: usize, step: usize) {
     skip(tally, data, at, step);
 }
 
+pub fn position_due(data: &[u8], at: usize) -> Answer {
+    Answer::place(reader(data, at).position())
+}
+
+/// Past the end nothing remains, where the Rust's difference would wrap.
+pub fn remaining_due(data: &[u8], at: usize) -> Answer {
+    Answer::place(match at > data.len() {
+        true => 0,
+        false => reader(data, at).remaining(),
+    })
+}
+
+pub fn byte_due(data: &[u8], at: usize) -> Answer {
+    let mut r = reader(data, at);
+    let value = r.u8();
+    Answer::words_or(value.map(|v| [u64::from(v), r.position() as u64]), SHORT)
+}
+
+pub fn word_due(data: &[u8], at: usize) -> Answer {
+    let mut r = reader(data, at);
+    let value = r.u32();
+    Answer::words_or(value.map(|v| [u64::from(v), r.position() as u64]), SHORT)
+}
+
+pub fn seek_due(data: &[u8], at: usize, to: usize) -> Answer {
+    let mut r = reader(data, at);
+    let done = r.seek(to);
+    Answer::words_or(done.map(|()| [r.position() as u64]), SHORT)
+}
+
+pub fn skip_due(data: &[u8], at: usize, n: usize) -> Answer {
+    let mut r = reader(data, at);
+    let done = r.skip(n);
+    Answer::words_or(done.map(|()| [r.position() as u64]), SHORT)
+}
+
 fn position(tally: &mut Tally, data: &[u8], at: usize) {
     tally.call(
-        &Answer::place(reader(data, at).position()),
+        &position_due(data, at),
         |words| probe_sys::position(at, words),
         || ("position", at),
     );
 }
 
-fn remaining(tally: &mut Tally, data: &[u8], at: usize, due: usize) {
+fn remaining(tally: &mut Tally, data: &[u8], at: usize) {
     tally.call(
-        &Answer::place(due),
+        &remaining_due(data, at),
         |words| probe_sys::remaining(data, at, words),
         || ("remaining", data.to_vec(), at),
     );
 }
 
 fn byte(tally: &mut Tally, data: &[u8], at: usize) {
-    let mut r = reader(data, at);
-    let value = r.u8();
     tally.call(
-        &Answer::words_or(value.map(|v| [u64::from(v), r.position() as u64]), SHORT),
+        &byte_due(data, at),
         |words| probe_sys::u8(data, at, words),
         || ("u8", data.to_vec(), at),
     );
 }
 
 fn word(tally: &mut Tally, data: &[u8], at: usize) {
-    let mut r = reader(data, at);
-    let value = r.u32();
     tally.call(
-        &Answer::words_or(value.map(|v| [u64::from(v), r.position() as u64]), SHORT),
+        &word_due(data, at),
         |words| probe_sys::u32(data, at, words),
         || ("u32", data.to_vec(), at),
     );
 }
 
 fn seek(tally: &mut Tally, data: &[u8], at: usize, to: usize) {
-    let mut r = reader(data, at);
-    let done = r.seek(to);
     tally.call(
-        &Answer::words_or(done.map(|()| [r.position() as u64]), SHORT),
+        &seek_due(data, at, to),
         |words| probe_sys::seek(data, at, to, words),
         || ("seek", data.to_vec(), at, to),
     );
 }
 
 fn skip(tally: &mut Tally, data: &[u8], at: usize, n: usize) {
-    let mut r = reader(data, at);
-    let done = r.skip(n);
     tally.call(
-        &Answer::words_or(done.map(|()| [r.position() as u64]), SHORT),
+        &skip_due(data, at, n),
         |words| probe_sys::skip(data, at, n, words),
         || ("skip", data.to_vec(), at, n),
     );

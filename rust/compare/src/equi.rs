@@ -18,7 +18,7 @@ const LENGTH: usize = 20;
 const RANDOM: u32 = 1_000_000;
 const WRITTEN: u32 = 200_000;
 /// Lengths to lend to the writer.
-const LENT: [usize; 5] = [0, 19, 20, 21, 40];
+pub const LENT: [usize; 5] = [0, 19, 20, 21, 40];
 
 /// t, b, l, r.
 pub type Fields = [u32; 4];
@@ -132,7 +132,7 @@ fn bits(crop: Bounds) -> Fields {
     [crop.top, crop.bottom, crop.left, crop.right].map(f32::to_bits)
 }
 
-fn due(payload: &[u8]) -> Answer {
+pub fn due(payload: &[u8]) -> Answer {
     let Some(crop) = mesh::parse_equi(payload) else {
         return Answer::refused(refusal(payload));
     };
@@ -161,7 +161,7 @@ fn written(tally: &mut Tally, random: &mut Random) {
     }
 }
 
-fn write_due(fields: Fields, before: &[u8]) -> Due<Fields> {
+pub fn write_due(fields: Fields, before: &[u8]) -> Due<Fields> {
     let crop = bounds(fields.map(|v| v as f32 / 4_294_967_296.0));
     if !crop.is_usable() {
         return Due::unchanged(Answer::refused(CROP), before);

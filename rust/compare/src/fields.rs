@@ -10,7 +10,7 @@ const NAME: &str = "fields";
 const SHORT: i64 = 3;
 const RANDOM: u32 = 4_000_000;
 /// From here on eight times a byte offset is no usize.
-const NO_PRODUCT: usize = 1 << 61;
+pub const NO_PRODUCT: usize = 1 << 61;
 
 pub fn run(options: &Options) -> Vec<Tally> {
     let what = "against mesh::BitReader: read and the place after it, new, align_to_byte";
@@ -52,8 +52,11 @@ fn places_alone(tally: &mut Tally, random: &mut Random) {
     }
 }
 
-/// What a field is in the Rust.
-fn due(data: &[u8], bit: usize, width: u32) -> Answer {
+/// What a field is in the Rust, which allows no width above 32.
+pub fn due(data: &[u8], bit: usize, width: u32) -> Answer {
+    if width > 32 {
+        return Answer::not_made();
+    }
     let mut reader = BitReader::new(data, 0);
     reader.bit = bit;
     let value = reader.read(width);
@@ -72,27 +75,35 @@ fn ours(tally: &mut Tally, due: &Answer, data: &[u8], bit: usize, width: u32) {
     );
 }
 
-fn new(tally: &mut Tally, byte: usize) {
-    new_at(tally, byte, BitReader::new(&[], byte).bit);
+/// The largest place for a product that the Rust would wrap.
+pub fn new_due(byte: usize) -> Answer {
+    Answer::place(match byte < NO_PRODUCT {
+        true => BitReader::new(&[], byte).bit,
+        false => usize::MAX,
+    })
 }
 
-fn new_at(tally: &mut Tally, byte: usize, due: usize) {
+fn new(tally: &mut Tally, byte: usize) {
     tally.call(
-        &Answer::place(due),
+        &new_due(byte),
         |words| probe_sys::bit_new(byte, words),
         || ("new", byte),
     );
 }
 
-fn align(tally: &mut Tally, bit: usize) {
+/// The largest place for a sum that the Rust would wrap.
+pub fn align_due(bit: usize) -> Answer {
     let mut reader = BitReader { data: &[], bit };
+    if bit > usize::MAX - 7 {
+        return Answer::place(usize::MAX);
+    }
     reader.align_to_byte();
-    align_at(tally, bit, reader.bit);
+    Answer::place(reader.bit)
 }
 
-fn align_at(tally: &mut Tally, bit: usize, due: usize) {
+fn align(tally: &mut Tally, bit: usize) {
     tally.call(
-        &Answer::place(due),
+        &align_due(bit),
         |words| probe_sys::align(bit, words),
         || ("align_to_byte", bit),
     );
@@ -108,17 +119,17 @@ fn beyond(options: &Options, random: &mut Random) -> Tally {
         }
         for width in (33..200).chain([u32::MAX - 1, u32::MAX]) {
             let bit = place(random, 8 * data.len());
-            ours(&mut tally, &Answer::not_made(), &data, bit, width);
+            read(&mut tally, &data, bit, width);
         }
     }
     for n in 0..10_000 {
         for byte in [NO_PRODUCT + n, usize::MAX - n] {
-            new_at(&mut tally, byte, usize::MAX);
+            new(&mut tally, byte);
         }
-        new_at(&mut tally, NO_PRODUCT | random.any_size(), usize::MAX);
+        new(&mut tally, NO_PRODUCT | random.any_size());
     }
     for n in 0..7 {
-        align_at(&mut tally, usize::MAX - n, usize::MAX);
+        align(&mut tally, usize::MAX - n);
     }
     tally
 }

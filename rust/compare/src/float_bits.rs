@@ -13,12 +13,15 @@ pub fn run(options: &Options) -> Vec<Tally> {
     vec![tally]
 }
 
-fn check(tally: &mut Tally, bits: u32) {
-    let x = f32::from_bits(bits);
-    let due = if x.is_nan() {
+pub fn due(x: f32) -> i64 {
+    if x.is_nan() {
         NAN
     } else {
         i64::from(x.to_bits())
-    };
-    tally.check(probe_sys::float_bits(x), due, || bits);
+    }
+}
+
+fn check(tally: &mut Tally, bits: u32) {
+    let x = f32::from_bits(bits);
+    tally.check(probe_sys::float_bits(x), due(x), || bits);
 }

@@ -70,7 +70,7 @@ fn words(reader: &mut Reader) -> Option<(usize, u32)> {
     Some((reader.u32()? as usize, reader.u32()?))
 }
 
-fn due(data: &[u8], at: usize) -> Answer {
+pub fn due(data: &[u8], at: usize) -> Answer {
     let mut reader = Reader { data, position: at };
     let Some((size, box_type)) = words(&mut reader) else {
         return Answer::words(&[]);
@@ -93,7 +93,7 @@ fn check(tally: &mut Tally, data: &[u8], at: usize) {
 }
 
 /// A few boxes of which none is a mesh; some have a wrong size, and some bytes follow.
-fn list(random: &mut Random) -> Vec<u8> {
+pub fn list(random: &mut Random) -> Vec<u8> {
     let mut data = Vec::new();
     for _ in 0..random.below(5) {
         let body = random.below(20);

@@ -1,8 +1,11 @@
 //! Compares the calls of libprobe.a with the Rust that they replace.
 //!
 //! `compare [--long] [--seed N] [SUBJECT]...`
+//!
+//! Or writes the list of stored answers: `compare --answers [--seed N]`
 
 mod answer;
+mod answers;
 mod bit_width;
 mod buffers;
 mod cbmp;
@@ -53,6 +56,7 @@ mod tally;
 mod view;
 mod zigzag;
 
+use std::io::{stdout, BufWriter};
 use std::process::ExitCode;
 
 use options::Options;
@@ -96,10 +100,24 @@ fn main() -> ExitCode {
             return ExitCode::from(2);
         }
     };
+    if options.answers {
+        return write_answers(&options);
+    }
     if compare(&options) == 0 {
         ExitCode::SUCCESS
     } else {
         ExitCode::FAILURE
+    }
+}
+
+fn write_answers(options: &Options) -> ExitCode {
+    let mut out = BufWriter::new(stdout().lock());
+    match answers::write(options, &mut out) {
+        Ok(()) => ExitCode::SUCCESS,
+        Err(error) => {
+            eprintln!("compare: {error}");
+            ExitCode::FAILURE
+        }
     }
 }
 

@@ -23,7 +23,7 @@ const RANDOM: usize = 12_000;
 /// Damaged copies of a random body.
 const COPIES: usize = 3;
 
-type Due = Result<Tables, i64>;
+pub type Due = Result<Tables, i64>;
 
 struct Bodies {
     random: Random,
@@ -123,7 +123,7 @@ impl Bodies {
 }
 
 /// Whether the Rust accepts what the model does and draws the same.
-fn agrees(body: &[u8], model: &Result<Mesh, i64>) -> bool {
+pub fn agrees(body: &[u8], model: &Result<Mesh, i64>) -> bool {
     match (mesh::parse_mesh(body), model) {
         (Some(rust), Ok(model)) => {
             let numbers = model.coordinates.clone();
@@ -158,18 +158,24 @@ fn parse(tally: &mut Tally, random: &mut Random, body: &[u8], due: &Due) {
     }
 }
 
-fn parse_on(tally: &mut Tally, body: &[u8], due: &Due, lent: [usize; 4]) {
-    let unchanged = Tables::default();
-    let (answer, after) = match due {
-        Err(refusal) => (Answer::refused(*refusal), &unchanged),
+/// The answer on buffers of these lengths, and the tables that are put into them.
+pub fn parsed(due: &Due, lent: [usize; 4]) -> (Answer, Option<&Tables>) {
+    match due {
+        Err(refusal) => (Answer::refused(*refusal), None),
         Ok(tables) if !fits(tables.lengths(), lent) => {
-            (Answer::needs_each(&tables.lengths()), &unchanged)
+            (Answer::needs_each(&tables.lengths()), None)
         }
         Ok(tables) => {
             let used = tables.lengths().map(|n| n as u64);
-            (Answer::words(&used), tables)
+            (Answer::words(&used), Some(tables))
         }
-    };
+    }
+}
+
+fn parse_on(tally: &mut Tally, body: &[u8], due: &Due, lent: [usize; 4]) {
+    let unchanged = Tables::default();
+    let (answer, put) = parsed(due, lent);
+    let after = put.unwrap_or(&unchanged);
     let mut pool = Table::new("pool word", &after.pool, lent[0]);
     let mut coordinates = Table::new("coordinate", &after.coordinates, lent[1]);
     let mut submeshes = Table::new("submesh word", &after.submeshes, lent[2]);

@@ -27,10 +27,17 @@ const SIZES: [u32; 7] = [0, 1, 7, 8, 9, 0x8000_0008, 0xFFFF_FFFF];
 
 /// What a list and a lone body share: every cut, other counts, and every bit turned over.
 pub fn every_byte(spelled: &Spelled, mut each: impl FnMut(&[u8])) {
-    let mut bytes = spelled.bytes.clone();
+    let bytes = &spelled.bytes;
     for n in 0..bytes.len() {
         each(&bytes[..n]);
     }
+    every_count(spelled, &mut each);
+    every_bit(bytes, each);
+}
+
+/// Each count with every other word over it.
+pub fn every_count(spelled: &Spelled, mut each: impl FnMut(&[u8])) {
+    let mut bytes = spelled.bytes.clone();
     for &place in &spelled.counts {
         let count = read_word(&bytes, place);
         for other in COUNTS.into_iter().chain([count - 1, count + 1]) {
@@ -39,6 +46,11 @@ pub fn every_byte(spelled: &Spelled, mut each: impl FnMut(&[u8])) {
         }
         overwrite(&mut bytes, place, count);
     }
+}
+
+/// Each bit turned over.
+pub fn every_bit(bytes: &[u8], mut each: impl FnMut(&[u8])) {
+    let mut bytes = bytes.to_vec();
     for bit in 0..8 * bytes.len() {
         bytes[bit / 8] ^= 1 << (bit % 8);
         each(&bytes);

@@ -36,7 +36,7 @@ const MOST_SHOWN: usize = 40;
 const SAME: &str = "the same";
 
 /// The box, or the number of the refusal.
-type Due = Result<Vec<u8>, i64>;
+pub type Due = Result<Vec<u8>, i64>;
 
 struct Writer {
     random: Random,
@@ -248,12 +248,17 @@ fn write(tally: &mut Tally, random: &mut Random, tables: &Tables, due: &Due, fau
     }
 }
 
+/// The answer on a buffer of this length, and the box that is put into it.
+pub fn put(due: &Due, lent: usize) -> (Answer, &[u8]) {
+    match due {
+        Err(refusal) => (Answer::refused(*refusal), &[]),
+        Ok(written) if written.len() > lent => (Answer::needs(written.len()), &[]),
+        Ok(written) => (Answer::place(written.len()), written),
+    }
+}
+
 fn write_on(tally: &mut Tally, tables: &Tables, due: &Due, faults: &[&str], lent: usize) {
-    let (answer, after) = match due {
-        Err(refusal) => (Answer::refused(*refusal), &[][..]),
-        Ok(written) if written.len() > lent => (Answer::needs(written.len()), &[][..]),
-        Ok(written) => (Answer::place(written.len()), &written[..]),
-    };
+    let (answer, after) = put(due, lent);
     let mut out = Table::new("byte", after, lent);
     let replies = tally.ask(&answer, |words| call(tables, out.lent(), words));
     tables::check(tally, replies, &[&out], || {

@@ -159,6 +159,17 @@ impl Lists {
     }
 }
 
+/// What a reader of lists has to draw: the Rust's drawing, or the model's where the Rust is not
+/// asked.
+pub fn due(payload: &[u8]) -> Due {
+    let model = mesh_model::parse_meshes(payload);
+    let drawing = model.reading.map(|meshes| Drawing::of_model(&meshes));
+    if model.most_submeshes > MOST_SUBMESHES {
+        return drawing;
+    }
+    rust(payload, &drawing)
+}
+
 /// The Rust's answer, with the number of the refusal and the coordinate numbers of the model.
 pub fn rust(payload: &[u8], model: &Due) -> Due {
     let (numbers, refusal) = match model {
@@ -179,15 +190,21 @@ fn parse(tally: &mut Tally, random: &mut Random, payload: &[u8], due: &Due) {
     }
 }
 
+/// The answer on buffers of these lengths, and what is drawn into them.
+pub fn parsed(due: &Due, lent: [usize; 3]) -> (Answer, Option<&Drawing>) {
+    match due {
+        Err(refusal) => (Answer::refused(*refusal), None),
+        Ok(drawing) if !fits(drawing.lengths(), lent) => {
+            (Answer::needs_each(&drawing.lengths()), None)
+        }
+        Ok(drawing) => (Answer::words(&drawing.words()), Some(drawing)),
+    }
+}
+
 fn parse_on(tally: &mut Tally, payload: &[u8], due: &Due, lent: [usize; 3]) {
     let unchanged = Drawing::default();
-    let (answer, after) = match due {
-        Err(refusal) => (Answer::refused(*refusal), &unchanged),
-        Ok(drawing) if !fits(drawing.lengths(), lent) => {
-            (Answer::needs_each(&drawing.lengths()), &unchanged)
-        }
-        Ok(drawing) => (Answer::words(&drawing.words()), drawing),
-    };
+    let (answer, drawn) = parsed(due, lent);
+    let after = drawn.unwrap_or(&unchanged);
     let mut numbers = Table::new("number", &after.numbers, lent[0]);
     let mut floats = Table::new("float", &after.floats, lent[1]);
     let mut records = Table::new("record word", &after.records, lent[2]);
@@ -211,11 +228,15 @@ pub fn fits<const N: usize>(needed: [usize; N], lent: [usize; N]) -> bool {
         .all(|(needed, lent)| *needed <= lent)
 }
 
-fn measure(tally: &mut Tally, payload: &[u8], due: &Due) {
-    let answer = match due {
+pub fn measured(due: &Due) -> Answer {
+    match due {
         Ok(drawing) => Answer::words(&drawing.words()),
         Err(refusal) => Answer::refused(*refusal),
-    };
+    }
+}
+
+fn measure(tally: &mut Tally, payload: &[u8], due: &Due) {
+    let answer = measured(due);
     let replies = tally.ask_amply(&answer, |words| probe_sys::measure_meshes(payload, words));
     tables::check(tally, replies, &[], || shown(payload));
 }
@@ -230,14 +251,17 @@ fn records(tally: &mut Tally, random: &mut Random, payload: &[u8], due: &Due) {
     }
 }
 
+/// The answer on a buffer of this length, and the records that are put into it.
+pub fn recorded(due: &Due, lent: usize) -> (Answer, &[u32]) {
+    match due {
+        Err(refusal) => (Answer::refused(*refusal), &[]),
+        Ok(drawing) if drawing.records.len() > lent => (Answer::needs(drawing.records.len()), &[]),
+        Ok(drawing) => (Answer::words(&drawing.counts()), &drawing.records),
+    }
+}
+
 fn records_on(tally: &mut Tally, payload: &[u8], due: &Due, lent: usize) {
-    let (answer, after) = match due {
-        Err(refusal) => (Answer::refused(*refusal), &[][..]),
-        Ok(drawing) if drawing.records.len() > lent => {
-            (Answer::needs(drawing.records.len()), &[][..])
-        }
-        Ok(drawing) => (Answer::words(&drawing.counts()), &drawing.records[..]),
-    };
+    let (answer, after) = recorded(due, lent);
     let mut records = Table::new("record word", after, lent);
     let replies = tally.ask_amply(&answer, |words| {
         probe_sys::mesh_records(payload, records.lent(), words)

@@ -8,6 +8,10 @@ pub fn run(options: &Options) -> Vec<Tally> {
         "nearest",
         "bits against `v as f32`",
         probe_sys::nearest,
-        |v| i64::from((v as f32).to_bits()),
+        due,
     )
+}
+
+pub fn due(v: u32) -> i64 {
+    i64::from((v as f32).to_bits())
 }

@@ -7,8 +7,8 @@ use crate::tally::Tally;
 
 /// The answer, the buffer after it, and what is read back where something was put.
 pub struct Due<B> {
-    answer: Answer,
-    after: Vec<u8>,
+    pub answer: Answer,
+    pub after: Vec<u8>,
     back: Option<B>,
 }
 

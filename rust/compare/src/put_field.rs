@@ -43,11 +43,11 @@ fn values(tally: &mut Tally, random: &mut Random, before: &[u8], bit: usize, wid
 }
 
 /// The low bits of a value.
-fn low(value: u32, width: u32) -> u32 {
+pub fn low(value: u32, width: u32) -> u32 {
     (u64::from(value) & ((1 << width) - 1)) as u32
 }
 
-fn due(before: &[u8], bit: usize, width: u32, value: u32) -> Due<u32> {
+pub fn due(before: &[u8], bit: usize, width: u32, value: u32) -> Due<u32> {
     if width > 32 {
         return Due::unchanged(Answer::not_made(), before);
     }

@@ -30,7 +30,7 @@ pub fn run(options: &Options) -> Vec<Tally> {
     vec![tally]
 }
 
-fn due(before: &[u8], at: usize, x: u32) -> Due<u32> {
+pub fn due(before: &[u8], at: usize, x: u32) -> Due<u32> {
     let Some(end) = at.checked_add(4) else {
         return Due::unchanged(Answer::needs(usize::MAX), before);
     };

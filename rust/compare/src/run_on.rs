@@ -57,13 +57,16 @@ fn close_limits(tally: &mut Tally, last: u32, field: u32) {
     }
 }
 
-fn check(tally: &mut Tally, last: u32, field: u32, limit: u32) {
+pub fn due(last: u32, field: u32, limit: u32) -> i64 {
     let index = next(last, field);
-    let due = if index < 0 || index >= i64::from(limit) {
+    if index < 0 || index >= i64::from(limit) {
         OUT
     } else {
         index
-    };
+    }
+}
+
+fn check(tally: &mut Tally, last: u32, field: u32, limit: u32) {
     let ours = probe_sys::run_on(last, field, limit);
-    tally.check(ours, due, || (last, field, limit));
+    tally.check(ours, due(last, field, limit), || (last, field, limit));
 }

@@ -8,6 +8,10 @@ pub fn run(options: &Options) -> Vec<Tally> {
         "scale",
         "bits against `scale` of mesh::parse_equi",
         probe_sys::scale,
-        |v| i64::from((v as f32 / 4_294_967_296.0).to_bits()),
+        due,
     )
+}
+
+pub fn due(v: u32) -> i64 {
+    i64::from((v as f32 / 4_294_967_296.0).to_bits())
 }

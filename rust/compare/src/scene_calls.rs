@@ -5,7 +5,7 @@ use crate::meshes::fits;
 use crate::options::Options;
 use crate::payloads::shown;
 use crate::random::Random;
-use crate::scene_model::{due, Call, Due};
+use crate::scene_model::{due, Call, Due, Scene};
 use crate::tables::{self, lengths, refused_lengths, Table};
 use crate::tally::Tally;
 
@@ -58,13 +58,7 @@ impl Calls {
 
     /// One call on buffers of these lengths. A refusal leaves all three as they were.
     pub fn on(&mut self, call: Call, due: &Due, lent: [usize; 3]) {
-        let (answer, drawn) = match due {
-            Err(refusal) => (Answer::refused(*refusal), None),
-            Ok(scene) if !fits(scene.lengths(), lent) => {
-                (Answer::needs_each(&scene.lengths()), None)
-            }
-            Ok(scene) => (Answer::words(&scene.words()), Some(scene)),
-        };
+        let (answer, drawn) = drawn(due, lent);
         let floats = drawn.map_or(&[][..], |scene| &scene.floats);
         let mut numbers = Table::new(
             "number",
@@ -95,6 +89,15 @@ impl Calls {
         tables::check(&mut self.tally, replies, &buffers, || {
             (call.kind, numbers_of(call), lent, shown(call.payload))
         });
+    }
+}
+
+/// The answer on buffers of these lengths, and what is drawn into them.
+pub fn drawn(due: &Due, lent: [usize; 3]) -> (Answer, Option<&Scene>) {
+    match due {
+        Err(refusal) => (Answer::refused(*refusal), None),
+        Ok(scene) if !fits(scene.lengths(), lent) => (Answer::needs_each(&scene.lengths()), None),
+        Ok(scene) => (Answer::words(&scene.words()), Some(scene)),
     }
 }
 

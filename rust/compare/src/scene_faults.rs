@@ -27,16 +27,16 @@ const NEEDS: i64 = 12;
 const PADDING: u32 = 200;
 
 /// A call that is being made wrong.
-struct Draft {
-    kind: u32,
-    bytes: Vec<u8>,
-    too_long: bool,
-    given: Given,
-    short_buffers: bool,
+pub struct Draft {
+    pub kind: u32,
+    pub bytes: Vec<u8>,
+    pub too_long: bool,
+    pub given: Given,
+    pub short_buffers: bool,
 }
 
 /// The refusal that a fault asks for, and the making of it.
-type Fault = (i64, fn(&mut Draft, &mut Random));
+pub type Fault = (i64, fn(&mut Draft, &mut Random));
 
 const KIND: Fault = (1, |draft, random| draft.kind = random.pick(&OTHER_KINDS));
 const TOO_LONG: Fault = (2, |draft, _| draft.too_long = true);
@@ -47,7 +47,7 @@ const VERSION: Fault = (4, |draft, random| {
 const SHORT_BUFFERS: Fault = (NEEDS, |draft, _| draft.short_buffers = true);
 
 /// In the order of document 01, so that the first one made decides.
-const CROP_FAULTS: [Fault; 9] = [
+pub const CROP_FAULTS: [Fault; 9] = [
     KIND,
     TOO_LONG,
     EMPTY,
@@ -59,7 +59,7 @@ const CROP_FAULTS: [Fault; 9] = [
     SHORT_BUFFERS,
 ];
 
-const CUBE_FAULTS: [Fault; 14] = [
+pub const CUBE_FAULTS: [Fault; 14] = [
     KIND,
     TOO_LONG,
     EMPTY,
@@ -92,11 +92,11 @@ pub fn run(options: &Options, times: usize) -> Vec<Tally> {
     let mut faults = Faults::new(options);
     for _ in 0..TIMES * times {
         for choice in choices(CROP_FAULTS.len()) {
-            let draft = faults.whole_crop();
+            let draft = whole_crop(&mut faults.calls.random);
             faults.spoiled(draft, &CROP_FAULTS, choice);
         }
         for choice in choices(CUBE_FAULTS.len()) {
-            let draft = faults.whole_cube();
+            let draft = whole_cube(&mut faults.calls.random);
             faults.spoiled(draft, &CUBE_FAULTS, choice);
         }
         faults.lists();
@@ -105,7 +105,7 @@ pub fn run(options: &Options, times: usize) -> Vec<Tally> {
 }
 
 /// Choices of at most three of so many faults, as the bits of a number.
-fn choices(faults: usize) -> impl Iterator<Item = u32> {
+pub fn choices(faults: usize) -> impl Iterator<Item = u32> {
     (0..1u32 << faults).filter(|choice| choice.count_ones() <= MOST_FAULTS)
 }
 
@@ -126,16 +126,6 @@ impl Faults {
             order: Tally::new(options, "scene faults order", order),
             long: vec![0; LONGEST + 1],
         }
-    }
-
-    fn whole_crop(&mut self) -> Draft {
-        let random = &mut self.calls.random;
-        let payload = equi::payload(random.pick(&USABLE));
-        draft(random, 0, &payload)
-    }
-
-    fn whole_cube(&mut self) -> Draft {
-        draft(&mut self.calls.random, 1, &cbmp::payload(0, PADDING))
     }
 
     fn spoiled(&mut self, mut draft: Draft, faults: &[Fault], choice: u32) {
@@ -189,6 +179,15 @@ impl Faults {
     }
 }
 
+pub fn whole_crop(random: &mut Random) -> Draft {
+    let payload = equi::payload(random.pick(&USABLE));
+    draft(random, 0, &payload)
+}
+
+pub fn whole_cube(random: &mut Random) -> Draft {
+    draft(random, 1, &cbmp::payload(0, PADDING))
+}
+
 /// A call of few vertices without a fault, its other numbers absurd.
 fn draft(random: &mut Random, kind: u32, payload: &[u8]) -> Draft {
     let (small, any) = (small_given(random), any_given(random));
@@ -214,7 +213,7 @@ fn draft(random: &mut Random, kind: u32, payload: &[u8]) -> Draft {
 }
 
 /// Makes the chosen faults and gives the first one's refusal.
-fn spoil(draft: &mut Draft, random: &mut Random, faults: &[Fault], choice: u32) -> Option<i64> {
+pub fn spoil(draft: &mut Draft, random: &mut Random, faults: &[Fault], choice: u32) -> Option<i64> {
     let mut first = None;
     for (place, (refusal, spoil)) in faults.iter().enumerate() {
         if choice >> place & 1 == 1 {
@@ -252,7 +251,7 @@ fn spoil_grid(draft: &mut Draft, random: &mut Random) {
 }
 
 /// Lengths to lend, with room for a drawing also where the call is refused, or too short ones.
-fn lent(random: &mut Random, due: &Due, too_short: bool) -> [usize; 3] {
+pub fn lent(random: &mut Random, due: &Due, too_short: bool) -> [usize; 3] {
     match (due, too_short) {
         (Err(_), false) => refused_lengths(random)[1],
         (Err(_), true) => short(random, [9; 3]),

@@ -9,8 +9,7 @@ use crate::cbmp;
 use crate::cube::{cells_usable, NUMBERS};
 use crate::drawing::Drawing;
 use crate::equi::{self, CROP};
-use crate::mesh_model;
-use crate::meshes::{self, MOST_SUBMESHES};
+use crate::meshes;
 use crate::payloads::{LONGEST, TOO_LONG};
 use crate::shares::MOST_FACE;
 use crate::sphere::{grid_usable, uvs_of, GRID};
@@ -116,12 +115,7 @@ fn draw_cube(padding: u32, given: Given) -> Option<Scene> {
 }
 
 fn mesh_list(payload: &[u8]) -> Due {
-    let model = mesh_model::parse_meshes(payload);
-    let mut drawing = model.reading.map(|meshes| Drawing::of_model(&meshes));
-    if model.most_submeshes <= MOST_SUBMESHES {
-        drawing = meshes::rust(payload, &drawing);
-    }
-    let drawing = drawing?;
+    let drawing = meshes::due(payload)?;
     let [meshes, submeshes, points] = drawing.counts();
     let Drawing {
         numbers,

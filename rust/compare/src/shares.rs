@@ -41,8 +41,12 @@ fn shares(options: &Options) -> Tally {
     tally
 }
 
+pub fn due(padding: u32, face: u32) -> f32 {
+    padding as f32 / face as f32
+}
+
 fn check_share(tally: &mut Tally, padding: u32, face: u32) {
-    let due = padding as f32 / face as f32;
+    let due = due(padding, face);
     let ours = probe_sys::padding_share(padding, face);
     let is_nan = u32::try_from(ours).is_ok_and(|bits| f32::from_bits(bits).is_nan());
     let due = if is_nan && due.is_nan() {

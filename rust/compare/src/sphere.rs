@@ -18,10 +18,12 @@ const MOST_VERTICES: u64 = 65_536;
 /// How far from the most vertices a grid still is close to them.
 const CLOSE: u64 = 200;
 const RANDOM: u32 = 1000;
-const FULL: Crop = [0.0; 4];
+/// The grid whose vertices the Rust counts as 0.
+const UNCOUNTED: (u32, u32) = (u32::MAX, u32::MAX);
+pub const FULL: Crop = [0.0; 4];
 
 /// Crops that are usable: edges at a pole or not, also by very little.
-const USABLE: [Crop; 13] = [
+pub const USABLE: [Crop; 13] = [
     FULL,
     [0.25, 0.0, 0.0, 0.0],
     [0.0, 0.25, 0.0, 0.0],
@@ -37,7 +39,7 @@ const USABLE: [Crop; 13] = [
     [BELOW_ONE, 0.0, 0.0, BELOW_ONE],
 ];
 
-const UNUSABLE: [Crop; 11] = [
+pub const UNUSABLE: [Crop; 11] = [
     [1.0, 0.0, 0.0, 0.0],
     [0.0, 1.0, 0.0, 0.0],
     [0.0, 0.0, 1.0, 0.0],
@@ -147,7 +149,7 @@ impl Sphere {
     fn any_grids(&mut self) {
         for rings in boundaries() {
             for sectors in boundaries() {
-                if (rings, sectors) != (u32::MAX, u32::MAX) {
+                if (rings, sectors) != UNCOUNTED {
                     self.grid(rings, sectors);
                 }
             }
@@ -168,10 +170,10 @@ impl Sphere {
     fn whole(&mut self, rings: u32, sectors: u32) {
         for lent in lengths(needed(rings, sectors, FULL)) {
             let mut after = before(lent);
-            let made = pano::sphere_indices(rings, sectors, &mut after);
+            let due = indices_due(rings, sectors, &mut after);
             fill::check(
                 &mut self.indices,
-                &due(made, rings, sectors, FULL),
+                &due,
                 &after,
                 |out, words| probe_sys::sphere_indices(rings, sectors, out, words),
                 || (rings, sectors, lent),
@@ -182,10 +184,10 @@ impl Sphere {
     fn cropped(&mut self, rings: u32, sectors: u32, crop: Crop) {
         for lent in lengths(needed(rings, sectors, crop)) {
             let mut after = before(lent);
-            let made = pano::sphere_indices_bounded(rings, sectors, bounds(crop), &mut after);
+            let due = bounded_due(rings, sectors, crop, &mut after);
             fill::check(
                 &mut self.bounded,
-                &due(made, rings, sectors, crop),
+                &due,
                 &after,
                 |out, words| probe_sys::sphere_indices_bounded(rings, sectors, crop, out, words),
                 || (rings, sectors, crop.map(f32::to_bits), lent),
@@ -198,14 +200,7 @@ impl Sphere {
         let made = uvs_of(rings, sectors, crop);
         for lent in lengths(made.as_ref().map_or(0, Vec::len)) {
             let mut after = before(lent);
-            let due = match &made {
-                None => Answer::refused(GRID),
-                Some(uvs) if uvs.len() > lent => Answer::needs(uvs.len()),
-                Some(uvs) => {
-                    after[..uvs.len()].copy_from_slice(uvs);
-                    Answer::place(uvs.len() / 2)
-                }
-            };
+            let due = uvs_due(made.as_deref(), &mut after);
             fill::check(
                 &mut self.uvs,
                 &due,
@@ -216,9 +211,8 @@ impl Sphere {
         }
     }
 
-    /// The grid whose vertices the Rust counts as 0.
     fn beyond(&mut self) {
-        let (n, tally) = (u32::MAX, &mut self.beyond);
+        let (n, tally) = (UNCOUNTED.0, &mut self.beyond);
         let due = Answer::refused(GRID);
         for lent in lengths(0) {
             let (numbers, floats) = (before(lent), before(lent));
@@ -256,7 +250,7 @@ pub fn grid_usable(rings: u32, sectors: u32) -> bool {
 }
 
 /// The exact number of indices, or 0 for a grid that is not usable.
-fn needed(rings: u32, sectors: u32, [top, bottom, ..]: Crop) -> usize {
+pub fn needed(rings: u32, sectors: u32, [top, bottom, ..]: Crop) -> usize {
     if !grid_usable(rings, sectors) {
         return 0;
     }
@@ -274,8 +268,41 @@ fn due(made: Option<usize>, rings: u32, sectors: u32, crop: Crop) -> Answer {
     }
 }
 
+/// The answer, and in `after` what becomes of a lent buffer.
+pub fn indices_due(rings: u32, sectors: u32, after: &mut [u16]) -> Answer {
+    if (rings, sectors) == UNCOUNTED {
+        return Answer::refused(GRID);
+    }
+    let made = pano::sphere_indices(rings, sectors, after);
+    due(made, rings, sectors, FULL)
+}
+
+/// The same with a crop.
+pub fn bounded_due(rings: u32, sectors: u32, crop: Crop, after: &mut [u16]) -> Answer {
+    if (rings, sectors) == UNCOUNTED {
+        return Answer::refused(GRID);
+    }
+    let made = pano::sphere_indices_bounded(rings, sectors, bounds(crop), after);
+    due(made, rings, sectors, crop)
+}
+
+/// The same with the texture coordinates that the Rust makes.
+pub fn uvs_due(made: Option<&[u32]>, after: &mut [u32]) -> Answer {
+    match made {
+        None => Answer::refused(GRID),
+        Some(uvs) if uvs.len() > after.len() => Answer::needs(uvs.len()),
+        Some(uvs) => {
+            after[..uvs.len()].copy_from_slice(uvs);
+            Answer::place(uvs.len() / 2)
+        }
+    }
+}
+
 /// The bits of u and v of each vertex that the Rust makes.
 pub fn uvs_of(rings: u32, sectors: u32, crop: Crop) -> Option<Vec<u32>> {
+    if (rings, sectors) == UNCOUNTED {
+        return None;
+    }
     let vertices = match grid_usable(rings, sectors) {
         true => pano::vertex_count(rings, sectors),
         false => 0,

@@ -23,10 +23,13 @@ pub fn run(options: &Options) -> Vec<Tally> {
     vec![tally]
 }
 
+pub fn due(last: u32, field: u32) -> Answer {
+    Answer::words(&[next(last, field) as u64])
+}
+
 fn check(tally: &mut Tally, last: u32, field: u32) {
-    let due = Answer::words(&[next(last, field) as u64]);
     tally.call(
-        &due,
+        &due(last, field),
         |words| probe_sys::stepped(last, field, words),
         || (last, field),
     );

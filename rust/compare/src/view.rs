@@ -9,11 +9,11 @@ use crate::tally::Tally;
 const NAME: &str = "view";
 const DEFAULT_FOV_BITS: u32 = 0x41CE_147B;
 /// Eye 0 is the left one, any other number the right one.
-const EYES: [u32; 5] = [0, 1, 2, 256, u32::MAX];
+pub const EYES: [u32; 5] = [0, 1, 2, 256, u32::MAX];
 /// Rounds over the few inputs of the small calls, each with words of other lengths.
 const ROUNDS: u32 = 100;
 /// Where the field of view becomes its largest and its smallest.
-const ZOOM_ENDS: [f32; 2] = [0.2576, 2.576];
+pub const ZOOM_ENDS: [f32; 2] = [0.2576, 2.576];
 
 pub fn run(options: &Options) -> Vec<Tally> {
     let what =
@@ -29,61 +29,83 @@ pub fn run(options: &Options) -> Vec<Tally> {
     vec![tally, zooms(options), fovs(options), default_fov(options)]
 }
 
-fn layouts(tally: &mut Tally, raw: u32) {
+pub fn layout_due(raw: u32) -> i64 {
+    i64::from(StereoLayout::from_raw(raw) as u32)
+}
+
+pub fn windowed_due(raw: u32) -> i64 {
+    i64::from(StereoLayout::from_raw(raw).is_windowed())
+}
+
+pub fn window_due(raw: u32, eye: u32) -> Answer {
     let layout = StereoLayout::from_raw(raw);
-    tally.check(
-        probe_sys::layout_from_raw(raw),
-        i64::from(layout as u32),
-        || ("StereoLayout::from_raw", raw),
-    );
-    tally.check(
-        probe_sys::is_windowed(raw),
-        i64::from(layout.is_windowed()),
-        || ("is_windowed", raw),
-    );
+    Answer::floats(&pano::uv_window(layout, eye_of(eye)))
+}
+
+fn layouts(tally: &mut Tally, raw: u32) {
+    tally.check(probe_sys::layout_from_raw(raw), layout_due(raw), || {
+        ("StereoLayout::from_raw", raw)
+    });
+    tally.check(probe_sys::is_windowed(raw), windowed_due(raw), || {
+        ("is_windowed", raw)
+    });
     for eye in EYES {
         tally.call(
-            &Answer::floats(&pano::uv_window(layout, eye_of(eye))),
+            &window_due(raw, eye),
             |words| probe_sys::uv_window(raw, eye, words),
             || ("uv_window", raw, eye),
         );
     }
 }
 
-fn pairs(tally: &mut Tally, raw: u32) {
+pub fn pair_due(raw: u32) -> i64 {
+    i64::from(AnaglyphPair::from_raw(raw) as u32)
+}
+
+pub fn mix_due(raw: u32, eye: u32) -> Answer {
     let pair = AnaglyphPair::from_raw(raw);
-    tally.check(
-        probe_sys::pair_from_raw(raw),
-        i64::from(pair as u32),
-        || ("AnaglyphPair::from_raw", raw),
-    );
+    Answer::floats(&pano::anaglyph_mix(pair, eye_of(eye)))
+}
+
+fn pairs(tally: &mut Tally, raw: u32) {
+    tally.check(probe_sys::pair_from_raw(raw), pair_due(raw), || {
+        ("AnaglyphPair::from_raw", raw)
+    });
     for eye in EYES {
         tally.call(
-            &Answer::floats(&pano::anaglyph_mix(pair, eye_of(eye))),
+            &mix_due(raw, eye),
             |words| probe_sys::anaglyph_mix(raw, eye, words),
             || ("anaglyph_mix", raw, eye),
         );
     }
 }
 
-fn projections(tally: &mut Tally, raw: u32) {
-    let projection = Projection::from_raw(raw);
-    tally.check(
-        probe_sys::projection_from_raw(raw),
-        i64::from(projection as u32),
-        || ("Projection::from_raw", raw),
-    );
-    tally.check(
-        probe_sys::is_panoramic(raw),
-        i64::from(projection.is_panoramic()),
-        || ("is_panoramic", raw),
-    );
-    let due = match projection.bounds() {
+pub fn projection_due(raw: u32) -> i64 {
+    i64::from(Projection::from_raw(raw) as u32)
+}
+
+pub fn panoramic_due(raw: u32) -> i64 {
+    i64::from(Projection::from_raw(raw).is_panoramic())
+}
+
+pub fn bounds_due(raw: u32) -> Answer {
+    match Projection::from_raw(raw).bounds() {
         Some(b) => Answer::floats(&[b.top, b.bottom, b.left, b.right]),
         None => Answer::words(&[]),
-    };
+    }
+}
+
+fn projections(tally: &mut Tally, raw: u32) {
+    tally.check(
+        probe_sys::projection_from_raw(raw),
+        projection_due(raw),
+        || ("Projection::from_raw", raw),
+    );
+    tally.check(probe_sys::is_panoramic(raw), panoramic_due(raw), || {
+        ("is_panoramic", raw)
+    });
     tally.call(
-        &due,
+        &bounds_due(raw),
         |words| probe_sys::projection_bounds(raw, words),
         || ("bounds", raw),
     );
@@ -96,13 +118,20 @@ fn eye_of(eye: u32) -> Eye {
     }
 }
 
+pub fn fov_due(zoom: f32) -> i64 {
+    i64::from(pano::fov_for_zoom(zoom).to_bits())
+}
+
+pub fn zoom_due(fov: f32) -> i64 {
+    i64::from(pano::zoom_for_fov(fov).to_bits())
+}
+
 fn zooms(options: &Options) -> Tally {
     let what = "bits against pano::fov_for_zoom";
     let mut tally = Tally::new(options, "fov_for_zoom", what);
     let mut check = |bits: u32| {
         let zoom = f32::from_bits(bits);
-        let due = pano::fov_for_zoom(zoom).to_bits();
-        tally.check(probe_sys::fov_for_zoom(zoom), i64::from(due), || bits);
+        tally.check(probe_sys::fov_for_zoom(zoom), fov_due(zoom), || bits);
     };
     float_sweep(options, "fov_for_zoom", &mut check);
     for end in ZOOM_ENDS {
@@ -116,8 +145,7 @@ fn fovs(options: &Options) -> Tally {
     let mut tally = Tally::new(options, "zoom_for_fov", what);
     float_sweep(options, "zoom_for_fov", |bits| {
         let fov = f32::from_bits(bits);
-        let due = pano::zoom_for_fov(fov).to_bits();
-        tally.check(probe_sys::zoom_for_fov(fov), i64::from(due), || bits);
+        tally.check(probe_sys::zoom_for_fov(fov), zoom_due(fov), || bits);
     });
     tally
 }

@@ -10,6 +10,10 @@ pub fn run(options: &Options) -> Vec<Tally> {
         "zigzag",
         "against mesh::zigzag",
         probe_sys::zigzag,
-        |n| i64::from(mesh::zigzag(n)),
+        due,
     )
+}
+
+pub fn due(n: u32) -> i64 {
+    i64::from(mesh::zigzag(n))
 }

@@ -1,0 +1,140 @@
+//! The calls in the order of their numbers.
+
+/// A call: its name, its arguments, its data, and what it is lent behind the words.
+pub struct Call {
+    pub name: &'static str,
+    pub args: &'static [&'static str],
+    pub data: &'static str,
+    pub lent: &'static str,
+}
+
+const fn call(
+    name: &'static str,
+    args: &'static [&'static str],
+    data: &'static str,
+    lent: &'static str,
+) -> Call {
+    Call {
+        name,
+        args,
+        data,
+        lent,
+    }
+}
+
+/// The first one has number 1.
+pub const CALLS: [Call; 51] = [
+    call("byte_new", &[], "-", "words"),
+    call("position", &["at"], "-", "words"),
+    call("remaining", &["at"], "bytes", "words"),
+    call("seek", &["at", "to"], "bytes", "words"),
+    call("skip", &["at", "n"], "bytes", "words"),
+    call("u8", &["at"], "bytes", "words"),
+    call("u32", &["at"], "bytes", "words"),
+    call("bit_new", &["byte_offset"], "-", "words"),
+    call("align", &["bit"], "-", "words"),
+    call("read", &["bit", "width"], "bytes", "words"),
+    call("header", &["at"], "bytes", "words"),
+    call("zigzag", &["n"], "-", "-"),
+    call("stepped", &["last", "field"], "-", "words"),
+    call("run_on", &["last", "field", "limit"], "-", "-"),
+    call("bit_width", &["count"], "-", "-"),
+    call("nearest", &["v"], "-", "-"),
+    call("scale", &["v"], "-", "-"),
+    call("float_bits", &["x"], "-", "-"),
+    call("put_word", &["out", "at", "x"], "-", "words out"),
+    call(
+        "put_field",
+        &["out", "bit", "width", "value"],
+        "-",
+        "words out",
+    ),
+    call("is_usable", &["top", "bottom", "left", "right"], "-", "-"),
+    call("parse_equi", &[], "payload", "words"),
+    call("write_equi", &["t", "b", "l", "r", "out"], "-", "words out"),
+    call("parse_cbmp", &[], "payload", "words"),
+    call("write_cbmp", &["padding", "out"], "-", "words out"),
+    call(
+        "sphere_indices",
+        &["rings", "sectors", "numbers"],
+        "-",
+        "words numbers",
+    ),
+    call(
+        "sphere_indices_bounded",
+        &[
+            "rings", "sectors", "top", "bottom", "left", "right", "numbers",
+        ],
+        "-",
+        "words numbers",
+    ),
+    call(
+        "sphere_uvs",
+        &["rings", "sectors", "floats"],
+        "-",
+        "words floats",
+    ),
+    call(
+        "cubemap_indices",
+        &["cells", "numbers"],
+        "-",
+        "words numbers",
+    ),
+    call(
+        "cubemap_mesh",
+        &["cells", "radius", "padding", "floats"],
+        "-",
+        "words floats",
+    ),
+    call("padding_share", &["padding", "face"], "-", "-"),
+    call("measure_meshes", &[], "payload", "words"),
+    call(
+        "parse_meshes",
+        &["numbers", "floats", "records"],
+        "payload",
+        "words numbers floats records",
+    ),
+    call("mesh_records", &["records"], "payload", "words records"),
+    call(
+        "parse_mesh",
+        &["pool", "coordinates", "submeshes", "points"],
+        "body",
+        "words pool coordinates submeshes points",
+    ),
+    call(
+        "write_mesh",
+        &["pool", "coordinates", "submeshes", "points", "out"],
+        "pool coordinates submeshes points",
+        "words out",
+    ),
+    call(
+        "scene",
+        &[
+            "kind",
+            "rings",
+            "sectors",
+            "cells",
+            "radius",
+            "face_width",
+            "numbers",
+            "floats",
+            "records",
+        ],
+        "payload",
+        "words numbers floats records",
+    ),
+    call("vertex_count", &["rings", "sectors"], "-", "words"),
+    call("index_count", &["rings", "sectors"], "-", "words"),
+    call("cubemap_vertex_count", &["cells"], "-", "words"),
+    call("cubemap_index_count", &["cells"], "-", "words"),
+    call("layout_from_raw", &["raw"], "-", "-"),
+    call("is_windowed", &["raw"], "-", "-"),
+    call("uv_window", &["raw", "eye"], "-", "words"),
+    call("pair_from_raw", &["raw"], "-", "-"),
+    call("anaglyph_mix", &["raw", "eye"], "-", "words"),
+    call("projection_from_raw", &["raw"], "-", "-"),
+    call("is_panoramic", &["raw"], "-", "-"),
+    call("projection_bounds", &["raw"], "-", "words"),
+    call("fov_for_zoom", &["zoom"], "-", "-"),
+    call("zoom_for_fov", &["fov"], "-", "-"),
+];
