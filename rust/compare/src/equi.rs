@@ -4,7 +4,7 @@ use reference::pano::Bounds;
 use crate::answer::Answer;
 use crate::crops::bounds;
 use crate::options::Options;
-use crate::payloads::{cuts, damaged, longest, shown};
+use crate::payloads::{self, damaged, shown};
 use crate::put::{self, Due};
 use crate::random::Random;
 use crate::sweep::{sample, sweep};
@@ -91,11 +91,8 @@ fn lengths(tally: &mut Tally, beyond: &mut Tally, random: &mut Random) {
         [0xFF; LENGTH],
     ];
     payloads.extend((0..200).map(|_| payload(random_fields(random))));
-    for payload in &payloads {
-        cuts(random, payload, |payload| check(tally, payload));
-    }
-    let payloads: Vec<&[u8]> = payloads[..8].iter().map(|p| &p[..]).collect();
-    longest(
+    payloads::lengths(
+        random,
         beyond,
         &payloads,
         |payload| check(tally, payload),

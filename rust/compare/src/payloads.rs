@@ -12,6 +12,23 @@ const VERSIONS: [u8; 3] = [0, 1, 255];
 const SHORT: usize = 40;
 const MOST_SHOWN: usize = 256;
 
+/// So many of the payloads are tried at their longest.
+const LONG: usize = 8;
+
+/// Each payload at all short lengths, and the first of them at their longest.
+pub fn lengths<P: AsRef<[u8]>>(
+    random: &mut Random,
+    beyond: &mut Tally,
+    payloads: &[P],
+    mut check: impl FnMut(&[u8]),
+    ours: impl Fn(&[u8], &mut [u64]) -> i64,
+) {
+    for payload in payloads {
+        cuts(random, payload.as_ref(), &mut check);
+    }
+    longest(beyond, &payloads[..LONG], check, ours);
+}
+
 /// All lengths of 0 to 40 bytes in each version: what a payload begins with, then random bytes.
 /// So are the three free bytes behind the version.
 pub fn cuts(random: &mut Random, payload: &[u8], mut each: impl FnMut(&[u8])) {
@@ -45,14 +62,14 @@ pub fn damaged(random: &mut Random, payload: &[u8]) -> Vec<u8> {
 }
 
 /// Each payload with zeros behind it up to the longest that is read, and with one byte more.
-pub fn longest(
+fn longest<P: AsRef<[u8]>>(
     beyond: &mut Tally,
-    payloads: &[&[u8]],
+    payloads: &[P],
     mut check: impl FnMut(&[u8]),
     ours: impl Fn(&[u8], &mut [u64]) -> i64,
 ) {
     let mut bytes = vec![0; LONGEST + 1];
-    for payload in payloads {
+    for payload in payloads.iter().map(P::as_ref) {
         bytes[..payload.len()].copy_from_slice(payload);
         check(&bytes[..LONGEST]);
         let due = Answer::refused(TOO_LONG);
