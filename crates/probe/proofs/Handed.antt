@@ -40,11 +40,6 @@ module _ {z : ℤ} {l : List ℕ} (d : List ℕ) where
       → (toZ w64 (ofZ w64 z) ≡ answers (told f u)) × ((l ≡ leaves d (told f u)) × R)
   handed-with f small e v w = let h = handed-told f small e v (w .0) in (h .0, (h .1, w .1))
 
-  -- and of one that fills a single buffer
-  pub handed-filled : {R : Type 0} {v : Verdict (List ℕ)} {w u : Verdict ℕ} → mag z < 2 ^ 63 → Tells z d l v → v ≡ told one w → (w ≡ u) × R
-      → (toZ w64 (ofZ w64 z) ≡ answers (told one u)) × ((l ≡ leaves d (told one u)) × R)
-  handed-filled = handed-with one
-
 -- a call that was made for its width, and one that was not
 pub narrow-made : {A : Type 0} (width : ℕ) (made not-made : A) → width ≤ 32 → made ≡ narrow width made not-made
 narrow-made width made not-made h = simp (le-leb _ _ h)

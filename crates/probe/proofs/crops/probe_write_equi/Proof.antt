@@ -1,5 +1,6 @@
 -- `probe_write_equi` meets its contract. Assumes nothing.
-use Rattle.probe.proofs.Handed.{handed-filled}
+use Rattle.probe.specs.Answer.{one}
+use Rattle.probe.proofs.Handed.{handed-with}
 use borrow.Author.Needs.{needs}
 use Rattle.probe.proofs.crops.probe_write_equi.Statement.{statement}
 use Rattle.probe.proofs.crops.probe_write_equi.Tie as tie
@@ -22,7 +23,7 @@ same-length-2 c = search needs
 returns : tie.Need-returns
 returns c =
     let t = c .before .before in
-    handed-filled _ (t .tell .ok) (t .tell .ensures) (t .before .of-filled .ensures) (t .before .before .before .before .write-equi .ensures)
+    handed-with _ one (t .tell .ok) (t .tell .ensures) (t .before .of-filled .ensures) (t .before .before .before .before .write-equi .ensures)
 
 pub probe-write-equi-spec : {M : Type 1} → statement M
 probe-write-equi-spec =

@@ -1,5 +1,6 @@
 -- `probe_cubemap_mesh` meets its contract. Assumes nothing.
-use Rattle.probe.proofs.Handed.{handed-filled}
+use Rattle.probe.specs.Answer.{one}
+use Rattle.probe.proofs.Handed.{handed-with}
 use borrow.Author.Needs.{needs}
 use Rattle.probe.proofs.grids.probe_cubemap_mesh.Statement.{statement}
 use Rattle.probe.proofs.grids.probe_cubemap_mesh.Tie as tie
@@ -22,7 +23,7 @@ same-length-2 c = search needs
 returns : tie.Need-returns
 returns c =
     let t = c .before .before in
-    handed-filled _ (t .tell .ok) (t .tell .ensures) (t .before .of-filled .ensures) (t .before .before .before .before .cubemap-mesh .ensures)
+    handed-with _ one (t .tell .ok) (t .tell .ensures) (t .before .of-filled .ensures) (t .before .before .before .before .cubemap-mesh .ensures)
 
 pub probe-cubemap-mesh-spec : {M : Type 1} → statement M
 probe-cubemap-mesh-spec =
