@@ -1,0 +1,5 @@
+-- The laws that the functions' proofs cite.
+pub mod SumLaws
+pub mod TextLaws
+pub mod ArgumentLaws
+pub mod LineLaws

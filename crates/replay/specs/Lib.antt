@@ -1,0 +1,4 @@
+-- What the crate's contracts cite.
+pub mod Sum
+pub mod Text
+pub mod Line
