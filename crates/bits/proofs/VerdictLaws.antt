@@ -1,7 +1,7 @@
--- The two ways through `within`, and what the verdicts of one step, of two and of a step's value tell. Assumes nothing.
+-- What the verdicts of a step behind a test, of `within`, of two steps and of a step's value tell. Assumes nothing.
 use mathlib.Core.Path.{_≡_, refl, sym}
 use mathlib.Core.Logic.{_⊎_, inl, inr}
-use mathlib.Core.Bool.{Bool, true, false}
+use mathlib.Core.Bool.{Bool, true, false, cond}
 use Prim.Native.Nat.{ℕ, _≤_, _<_}
 use native.Mathlib.Omega.{arith}
 use lib.Dec.{leb}
@@ -15,6 +15,31 @@ le-or-lt m n = go (leb m n) refl
     go true e = inl (leb-true m n e)
     go false e = inr (leb-false m n e)
 
+-- the equations at hand contradict each other
+pub clash : {X : Type 0} → _≡_ {A = ℕ} 0 1 → X
+clash e = absurd (omega arith)
+
+-- ---- a step behind a test
+
+module _ {A : Type 0} (b : Bool) (v : Verdict A) (k : ℕ) where
+  -- a value was accepted: the test held
+  pub tested-value : (a : A) → cond b v (declined k) ≡ accepted a → (b ≡ true) × (v ≡ accepted a)
+  tested-value a e = go b e
+    where
+      go : (b : Bool) → cond b v (declined k) ≡ accepted a → (b ≡ true) × (v ≡ accepted a)
+      go true e = (refl, e)
+      go false e = clash (cc)
+
+  -- it was declined: by the test, or behind it
+  pub tested-declined : (j : ℕ) → cond b v (declined k) ≡ declined j → ((b ≡ false) × (k ≡ j)) ⊎ ((b ≡ true) × (v ≡ declined j))
+  tested-declined j e = go b e
+    where
+      go : (b : Bool) → cond b v (declined k) ≡ declined j → ((b ≡ false) × (k ≡ j)) ⊎ ((b ≡ true) × (v ≡ declined j))
+      go true e = inr (refl, e)
+      go false e = inl (refl, cc)
+
+-- ---- a value in its limit
+
 module _ {A : Type 0} (m n : ℕ) (v : A) where
   pub within-yes : (o : Verdict A) → m ≤ n → within m n v o ≡ accepted v
   unfolding within
@@ -26,19 +51,20 @@ module _ {A : Type 0} (m n : ℕ) (v : A) where
 
   -- a value was accepted: the test held, and it is this value
   pub within-value : (k : ℕ) (u : A) → within m n v (declined k) ≡ accepted u → (m ≤ n) × (v ≡ u)
-  within-value k u e = go (le-or-lt m n)
-    where
-      go : (m ≤ n) ⊎ (n < m) → (m ≤ n) × (v ≡ u)
-      go (inl h) = let w = within-yes (declined k) h in (h, cc)
-      go (inr h) = let w = within-no (declined k) h in let z : _≡_ {A = ℕ} 0 1 = cc in absurd (omega arith)
+  unfolding within
+  within-value k u e =
+      let t = tested-value (leb m n) (accepted v) k u e in
+      let d = t .1 in
+      (leb-true m n (t .0), cc)
 
   -- it was declined: the test failed, and this is the number
   pub within-refused : (k j : ℕ) → within m n v (declined k) ≡ declined j → (n < m) × (k ≡ j)
-  within-refused k j e = go (le-or-lt m n)
+  unfolding within
+  within-refused k j e = go (tested-declined (leb m n) (accepted v) k j e)
     where
-      go : (m ≤ n) ⊎ (n < m) → (n < m) × (k ≡ j)
-      go (inl h) = let w = within-yes (declined k) h in let z : _≡_ {A = ℕ} 0 1 = cc in absurd (omega arith)
-      go (inr h) = let w = within-no (declined k) h in (h, cc)
+      go : ((leb m n ≡ false) × (k ≡ j)) ⊎ ((leb m n ≡ true) × (accepted v ≡ declined j)) → (n < m) × (k ≡ j)
+      go (inl t) = (leb-false m n (t .0), t .1)
+      go (inr (t, d)) = clash (cc)
 
 -- ---- one step after another
 
@@ -46,8 +72,8 @@ module _ {A B : Type 0} where
   -- both steps were accepted
   pub then-value : (v : Verdict A) (f : A → Verdict B) (y : B) → andThen v f ≡ accepted y → (x : A) × (v ≡ accepted x) × (f x ≡ accepted y)
   then-value (accepted x) f y e = (x, refl, e)
-  then-value (needs l) f y e = let z : _≡_ {A = ℕ} 0 1 = cc in absurd (omega arith)
-  then-value (declined k) f y e = let z : _≡_ {A = ℕ} 0 1 = cc in absurd (omega arith)
+  then-value (needs l) f y e = clash (cc)
+  then-value (declined k) f y e = clash (cc)
 
   pub then-yes : (v : Verdict A) (f : A → Verdict B) (x : A) → v ≡ accepted x → andThen v f ≡ f x
   then-yes v f x e = rw e
@@ -58,7 +84,7 @@ module _ {A B : Type 0} where
   -- one of the two was declined
   pub then-declined : (v : Verdict A) (f : A → Verdict B) (k : ℕ) → andThen v f ≡ declined k → (v ≡ declined k) ⊎ ((x : A) × ((v ≡ accepted x) × (f x ≡ declined k)))
   then-declined (accepted x) f k e = inr (x, (refl, e))
-  then-declined (needs l) f k e = let z : _≡_ {A = ℕ} 0 1 = cc in absurd (omega arith)
+  then-declined (needs l) f k e = clash (cc)
   then-declined (declined j) f k e = let z : j ≡ k = cc in inl (rw z)
 
 -- ---- a verdict on another value
@@ -74,6 +100,6 @@ module _ {A B : Type 0} (f : A → B) (v : Verdict A) where
   mapped-declined k e = go v e
     where
       go : (v : Verdict A) → declined k ≡ mapped f v → v ≡ declined k
-      go (accepted a) e = absurd (let z : _≡_ {A = ℕ} 0 1 = cc in omega arith)
-      go (needs l) e = absurd (let z : _≡_ {A = ℕ} 0 1 = cc in omega arith)
+      go (accepted a) e = clash (cc)
+      go (needs l) e = clash (cc)
       go (declined j) e = cc

@@ -6,7 +6,7 @@ use native.Mathlib.Omega.{arith}
 use lib.ListN.{length}
 use borrow.Author.Tests.{le-leb, lt-leb}
 use Rattle.bits.specs.Verdict.{Verdict, accepted, needs, declined, mapped, andThen}
-use Rattle.bits.proofs.VerdictLaws.{within-yes}
+use Rattle.bits.proofs.VerdictLaws.{clash, within-yes}
 use Rattle.payload.specs.Payload.{limited}
 use Rattle.payload.specs.Mesh.{Mesh}
 use Rattle.payload.specs.MeshRead.{readMeshes}
@@ -50,9 +50,9 @@ module _ (s : List ℕ) (h : length s ≤ 16384) where
   never-more l e = never-needs s l (sym (limited-yes s (readMeshes s) (omega arith)) ∙ listed-is ∙ go (listed s) e)
     where
       go : (v : Verdict (List Mesh)) → mapped listCounts v ≡ needs l → v ≡ needs l
-      go (accepted x) i = absurd (let z : _≡_ {A = ℕ} 0 1 = cc in omega arith)
+      go (accepted x) i = clash (cc)
       go (needs x) i = let j : x ≡ l = cc in ap needs j
-      go (declined d) i = absurd (let z : _≡_ {A = ℕ} 0 1 = cc in omega arith)
+      go (declined d) i = clash (cc)
 
   pub lines-fit : (n m k p : ℕ) → 13650 ≤ n → accepted (m, k, p) ≡ listing s → 5 * k ≤ n
   lines-fit n m k p o e = go (listed s) refl e
@@ -62,5 +62,5 @@ module _ (s : List ℕ) (h : length s ≤ 16384) where
           let t : (m, k, p) ≡ listCounts l = cc in
           let c : k ≡ submeshTotal l = ap (λ (y : ℕ × ℕ × ℕ). y .1) t in
           omega (arith, records-fit l i)
-      go (needs l) i j = absurd (let z : _≡_ {A = ℕ} 0 1 = cc in omega arith)
-      go (declined d) i j = absurd (let z : _≡_ {A = ℕ} 0 1 = cc in omega arith)
+      go (needs l) i j = clash (cc)
+      go (declined d) i j = clash (cc)

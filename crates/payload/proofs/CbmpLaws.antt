@@ -1,18 +1,16 @@
 -- Kind 1 is read exactly where it is spelled, and reading and writing undo each other. Assumes nothing.
 use Prim.Native.Nat.{ℕ, _+_, _*_, _^_, _≤_, _<_}
 use mathlib.Core.Path.{_≡_, sym, ap, _∙_}
-use mathlib.Core.Bool.{cond}
 use mathlib.Core.List.{List, [], _∷_}
-use mathlib.Core.Logic.{_↔_, _⊎_, inl, inr}
-use native.Mathlib.Decide.{ℕ-discrete}
+use mathlib.Core.Logic.{_↔_}
 use native.Mathlib.Omega.{arith}
 use lib.ListN.{length}
-use lib.Dec.{eqb}
-use borrow.Author.Tests.{le-leb, lt-leb, eq-eqb, ne-eqb}
+use lib.Dec.{leb, eqb}
+use borrow.Author.Tests.{le-leb, leb-true, eqb-true}
 use Rattle.bits.specs.Verdict.{accepted, declined, andThen}
 use Rattle.bits.specs.Field.{field}
 use Rattle.bits.specs.Read.{numberAt}
-use Rattle.bits.proofs.VerdictLaws.{le-or-lt, within-yes, within-value, then-value, then-yes}
+use Rattle.bits.proofs.VerdictLaws.{tested-value, within-yes, within-value, then-value, then-yes}
 use Rattle.payload.specs.Payload.{fullBox}
 use Rattle.payload.specs.Words.{wordBytes}
 use Rattle.payload.specs.Cbmp.{CbmpSpells, paddingUsable, layoutThenPadding, cbmpRead, cbmpBytes, cbmpWritten}
@@ -33,22 +31,11 @@ module _ (s : List ℕ) (at : ℕ) where
   rest-read p e =
       let a = then-value (numberAt 4 s at) _ p e in
       let r = number-read 4 s at (a .0 .0) (a .0 .1) (a .1) in
-      judge (a .0 .0) (a .0 .1) (r .1) (r .2) (ℕ-discrete (a .0 .0) 0) (a .2)
-    where
-      judge : (x q : ℕ) → field s (8 * at) 32 ≡ x → at + 4 ≡ q → Dec (x ≡ 0)
-          → cond (eqb x 0) (andThen (numberAt 4 s q) (λ v. paddingUsable (v .0))) (declined 5) ≡ accepted p
-          → (at + 8 ≤ length s) × (field s (8 * at) 32 ≡ 0) × (field s (8 * (at + 4)) 32 ≡ p) × (p ≤ 4096)
-      judge x q f g (yes z) h =
-          let b = then-value (numberAt 4 s q) (λ v. paddingUsable (v .0)) p (rw (eq-eqb x 0 z) at h) in
-          let r = number-read 4 s q (b .0 .0) (b .0 .1) (b .1) in
-          let w = within-value (b .0 .0) 4096 (b .0 .0) 5 p (b .2) in
-          let k : b .0 .0 ≡ p = w .1 in
-          let l : b .0 .0 ≤ 4096 = w .0 in
-          (omega (arith, r .0), f ∙ z, ap (λ (i : ℕ). field s (8 * i) 32) g ∙ r .1 ∙ k, omega arith)
-      judge x q f g (no z) h =
-          let d : declined 5 ≡ accepted p = rw (ne-eqb x 0 z) at h in
-          let w : _≡_ {A = ℕ} 0 1 = cc in
-          absurd (omega arith)
+      let t = tested-value (eqb (a .0 .0) 0) (andThen (numberAt 4 s (a .0 .1)) (λ v. paddingUsable (v .0))) 5 p (a .2) in
+      let b = then-value (numberAt 4 s (a .0 .1)) (λ v. paddingUsable (v .0)) p (t .1) in
+      let q = number-read 4 s (a .0 .1) (b .0 .0) (b .0 .1) (b .1) in
+      let w = within-value (b .0 .0) 4096 (b .0 .0) 5 p (b .2) in
+      (omega (arith, q .0, r .2), r .1 ∙ eqb-true (a .0 .0) 0 (t .0), ap (λ (i : ℕ). field s (8 * i) 32) (r .2) ∙ q .1 ∙ w .1, omega (arith, w .0, w .1))
 
 -- ---- both ways
 
@@ -77,11 +64,10 @@ cbmp-reads = reads-laws cbmpRead both
 
 written-is : (p : ℕ) (s : List ℕ) → cbmpWritten p ≡ accepted s → (p ≤ 4096) × (cbmpBytes p ≡ s)
 unfolding cbmpWritten
-written-is p s e = go (le-or-lt p 4096)
-  where
-    go : (p ≤ 4096) ⊎ (4096 < p) → (p ≤ 4096) × (cbmpBytes p ≡ s)
-    go (inl h) = let f : accepted (cbmpBytes p) ≡ accepted s = rw (le-leb p 4096 h) at e in (h, cc)
-    go (inr h) = let f : declined 5 ≡ accepted s = rw (lt-leb p 4096 h) at e in let z : _≡_ {A = ℕ} 0 1 = cc in absurd (omega arith)
+written-is p s e =
+    let t = tested-value (leb p 4096) (accepted (cbmpBytes p)) 5 s e in
+    let d = t .1 in
+    (leb-true p 4096 (t .0), cc)
 
 bytes-spell : (p : ℕ) → p ≤ 4096 → CbmpSpells p (cbmpBytes p)
 bytes-spell p h =

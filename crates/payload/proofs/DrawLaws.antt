@@ -1,38 +1,32 @@
--- What the filling pass learns of a mesh list that was read, and that it stores the list's drawing piece by piece. Assumes nothing.
-use Prim.Native.Nat.{ℕ, zero, suc, _+_, _-_, _*_, _≤_, _<_}
+-- The filling pass stores a mesh list's drawing piece by piece: the words of points, of submeshes and of meshes, and the whole in three buffers. Assumes nothing.
+use Prim.Native.Nat.{ℕ, suc, _+_, _-_, _*_, _≤_, _<_}
 use mathlib.Core.Path.{_≡_, refl, sym, ap, ap₂, _∙_}
 use mathlib.Core.List.{List, [], _∷_, _++_, append-assoc, append-nil}
-use mathlib.Core.Logic.{_⊎_, inl, inr}
 use mathlib.Core.Bool.{true, false}
 use native.Mathlib.Omega.{arith}
-use native.Mathlib.Decide.{ℕ-discrete}
 use lib.ListN.{length, getD, length-append}
 use lib.Seq.{sets, length-sets}
-use borrow.Author.Tests.{eq-eqb, ne-eqb, le-leb, lt-leb}
-use Rattle.bits.specs.Verdict.{Verdict, accepted, needs, declined, andThen, mapped}
+use borrow.Author.Tests.{le-leb, lt-leb}
+use Rattle.bits.specs.Verdict.{Verdict, accepted, needs, declined, mapped}
 use Rattle.bits.specs.Field.{field}
 use Rattle.bits.specs.Number.{widthOf}
-use Rattle.bits.specs.Header.{listEnd, box, headerAt}
-use Rattle.bits.proofs.VerdictLaws.{le-or-lt, then-value, mapped-value, mapped-declined}
-use Rattle.bits.proofs.NumberLaws.{width-least}
+use Rattle.bits.specs.Header.{listEnd, headerAt}
 use Rattle.payload.specs.Payload.{limited}
 use Rattle.payload.specs.Mesh.{Submesh, Mesh}
-use Rattle.payload.specs.Run.{Found, readRun, one, five}
-use Rattle.payload.specs.MeshSpells.{submeshBits, SubmeshesSpell, aligned, verticesAt, meshType, part}
+use Rattle.payload.specs.Run.{readRun, one, five}
+use Rattle.payload.specs.MeshSpells.{submeshBits, SubmeshesSpell, aligned, verticesAt, meshType}
 use Rattle.payload.specs.MeshRead.{many, readSubmesh, readWords, readMesh, readFrom, readMeshes}
 use Rattle.payload.specs.MeshDrawing.{pointWords, runWords, submeshWords, coordinate, meshWords, pointCount, drawnNumbers, drawnFloats, drawnRecords}
 use Rattle.payload.specs.Meshes.{listSize, fitsIn, drawnAnswer, drawnInto, meshesAnswer}
-use Rattle.payload.specs.Internal.{WasRead, valueOr, runNumbers, wordAt, Pooled, submeshesRead, meshRead, boxMeshes, boxRead, meshesFrom, HeadOf, FillRoom, afterMeshes}
+use Rattle.payload.specs.Internal.{WasRead, valueOr, runNumbers, wordAt, Pooled, submeshesRead, meshRead, boxRead, meshesFrom, HeadOf, FillRoom, afterMeshes}
 use Rattle.payload.specs.declared.mesh.Head.{Head}
 use Rattle.payload.specs.declared.mesh.draw.Place.{Place}
 use Rattle.payload.specs.declared.mesh.measure.MeshListSize.{MeshListSize}
 use Rattle.payload.proofs.FillLaws.{sets-append, sets-after, getD-sets, sets-front}
-use Rattle.payload.proofs.PayloadLaws.{limited-yes, limited-no}
-use Rattle.payload.proofs.RunLaws.{spells-run}
 use Rattle.payload.proofs.StepLaws.{read-value}
-use Rattle.payload.proofs.MeshReadLaws.{width-small, submesh-spells, many-on, words-at, MeshParts, mesh-parts, parts-vertices, parts-submeshes, header-value, at-end, at-mesh, at-other}
-use Rattle.payload.proofs.CheckLaws.{run-fits}
+use Rattle.payload.proofs.MeshReadLaws.{width-small, words-at, MeshParts, mesh-parts, parts-vertices, parts-submeshes}
 use Rattle.payload.proofs.MeasureLaws.{run-floats, submesh-floats}
+use Rattle.payload.proofs.TurnLaws.{SubmeshTurn, turn-stored, mesh-is, box-skipped, BoxTurn, list-end, Listed, not-listed, listed-lengths}
 
 -- ---- points
 
@@ -91,110 +85,19 @@ pub record RunLeft (s : List ℕ) (w m : ℕ) (numbers : List ℕ) (base : ℕ) 
 
 -- ---- submeshes
 
--- the first of n submeshes from bit p on, whose point count is k
-pub record SubmeshTurn (s : List ℕ) (w m n p k : ℕ) (x : Submesh) : Type 0 where
-  pub texture : field s p 8 ≡ x .texture
-  pub mode : field s (p + 8) 8 ≡ x .mode
-  pub count : k ≡ length (x .points)
-  pub ends : p + 48 + k * w ≤ 8 * length s
-  pub run : readRun s w m k (p + 48) one ≡ accepted (x .points, p + 48 + k * w)
-  pub is : submeshesRead (many (readSubmesh s w m) n p) ≡ x ∷ submeshesRead (many (readSubmesh s w m) (n - 1) (p + (48 + k * w)))
-  pub rest : WasRead (many (readSubmesh s w m) (n - 1) (p + (48 + k * w)))
-
-first-read : {A : Type 0} (read : ℕ → Found A) (n p : ℕ) → WasRead (many read (suc n) p) → (a : A) × (q : ℕ) × (read p ≡ accepted (a, q))
-unfolding many
-first-read read n p r =
-    let v = read-value (many read (suc n) p) r in
-    let b = then-value (read p) (λ x. andThen (many read n (x .1)) (λ l. accepted (x .0 ∷ l .0, l .1))) (v .0) (v .1) in
-    (b .0 .0, b .0 .1, b .1)
-
-abbrev joined : Submesh → List Submesh × ℕ → Found (List Submesh)
-joined x l = accepted (x ∷ l .0, l .1)
-
-tail-read : (x : Submesh) (v : Found (List Submesh)) → WasRead (andThen v (joined x)) → (submeshesRead (andThen v (joined x)) ≡ x ∷ submeshesRead v) × WasRead v
-tail-read x (accepted l) r = (refl, tt)
-tail-read x (needs k) r = absurd r
-tail-read x (declined k) r = absurd r
-
-module _ (s : List ℕ) (w m : ℕ) where
-  submesh-turn : (n p k : ℕ) → 0 < n → WasRead (many (readSubmesh s w m) n p) → k ≡ field s (p + 16) 32 → (x : Submesh) × SubmeshTurn s w m n p k x
-  submesh-turn zero p k o r c = absurd (omega arith)
-  submesh-turn (suc n) p k o r c = let v = first-read (readSubmesh s w m) n p r in go (v .0) (v .1) (v .2)
-    where
-      z : suc n - 1 ≡ n
-      z = omega arith
-
-      go : (x : Submesh) (q : ℕ) → readSubmesh s w m p ≡ accepted (x, q) → (x : Submesh) × SubmeshTurn s w m (suc n) p k x
-      go x q d =
-          let f = submesh-spells s w m p x q d in
-          let e = many-on (readSubmesh s w m) n p x q d in
-          let b = tail-read x (many (readSubmesh s w m) n q) (rw e at r) in
-          let g : k ≡ length (x .points) = c ∙ f .0 .count in
-          let i : q ≡ p + (48 + k * w) = rw g (f .1) in (
-            x,
-            record {
-              texture = f .0 .texture;
-              mode = f .0 .mode;
-              count = g;
-              ends = run-fits k (f .0 .run) (sym g) (omega (arith, f .0 .some));
-              run = rw g (spells-run s w m (p + 48) one (x .points) (omega arith) (f .0 .run));
-              is = rw (z, e, ← i) (b .0);
-              rest = rw (z, ← i) (b .1);
-            },
-          )
-
-pub submeshes-end : (s : List ℕ) (w m n p : ℕ) → n ≤ 0 → submeshesRead (many (readSubmesh s w m) n p) ≡ []
-unfolding many
-submeshes-end s w m zero p h = refl
-submeshes-end s w m (suc n) p h = absurd (omega arith)
-
-pub points-first : (x : Submesh) (l m : List Submesh) → l ≡ x ∷ m → pointCount l ≡ length (x .points) + pointCount m
-points-first x l m e = rw e
-
 module _ (f : ℕ → ℕ) (base : ℕ) where
   pub submesh-words-none : (l : List Submesh) → l ≡ [] → submeshWords f base l ≡ []
   unfolding submeshWords
   submesh-words-none l e = rw e
-
-  -- the first submesh's words are stored, and the others' are left
-  submesh-first : (x : Submesh) (l m : List Submesh) (d : List ℕ) (o t : ℕ) → l ≡ x ∷ m → o + 5 * length (x .points) ≡ t
-      → sets d o (submeshWords f base l) ≡ sets (sets d o (runWords f base (x .points))) t (submeshWords f base m)
-  unfolding submeshWords
-  submesh-first x l m d o t e g =
-      rw e (sets-after (runWords f base (x .points)) (submeshWords f base m) d o t (ap (λ (k : ℕ). o + k) (run-floats f base (x .points)) ∙ g))
-
--- what a loop over submeshes knows of those that are left
-pub record SubmeshesLeft (s : List ℕ) (w m left bit : ℕ) : Type 0 where
-  pub read : WasRead (many (readSubmesh s w m) left bit)
-  pub narrow : w ≤ 17
-  pub most : m ≤ 65536
-  pub low : 64 ≤ bit
-
--- at its start
-pub submeshes-left : (s : List ℕ) (w m left bit : ℕ) → w ≡ widthOf m → m ≤ 65536 → 64 ≤ bit → WasRead (many (readSubmesh s (widthOf m) m) left bit) → SubmeshesLeft s w m left bit
-submeshes-left s w m left bit e h l r = record { read = rw e r; narrow = rw e (width-least m 17 (omega arith)); most = h; low = l }
-
-module _ {s : List ℕ} {w m left bit : ℕ} (L : SubmeshesLeft s w m left bit) where
-  pub left-turn : (k : ℕ) → 0 < left → k ≡ field s (bit + 16) 32 → (x : Submesh) × SubmeshTurn s w m left bit k x
-  left-turn k o e = submesh-turn s w m left bit k o (L .read) e
-
-  -- the header of the next submesh lies inside
-  pub left-room : 0 < left → bit + 48 ≤ 8 * length s
-  left-room o = let t = left-turn (field s (bit + 16) 32) o refl in omega (arith, t .1 .ends)
-
-  pub left-on : (k : ℕ) (x : Submesh) → SubmeshTurn s w m left bit k x → SubmeshesLeft s w m (left - 1) (bit + (48 + k * w))
-  left-on k x t = record { read = t .rest; narrow = L .narrow; most = L .most; low = omega (arith, L .low) }
 
 -- the words of a submesh were stored, and the others' are left
 pub submesh-drawn : (f : ℕ → ℕ) (base : ℕ) (s : List ℕ) (w m left bit k : ℕ) (x : Submesh) (d d′ : List ℕ) (o : ℕ) → SubmeshTurn s w m left bit k x
     → d′ ≡ sets d o (runWords f base (runNumbers (readRun s w m k (bit + 48) one)))
     → sets d o (submeshWords f base (submeshesRead (many (readSubmesh s w m) left bit)))
     ≡ sets d′ (o + 5 * k) (submeshWords f base (submeshesRead (many (readSubmesh s w m) (left - 1) (bit + (48 + k * w)))))
+unfolding submeshWords
 submesh-drawn f base s w m left bit k x d d′ o t e =
-    let h : d′ ≡ sets d o (runWords f base (x .points)) = e ∙ rw (t .run) in
-    submesh-first f base x (submeshesRead (many (readSubmesh s w m) left bit)) (submeshesRead (many (readSubmesh s w m) (left - 1) (bit + (48 + k * w)))) d o (o + 5 * k) (t .is)
-    (ap (λ (j : ℕ). o + 5 * j) (sym (t .count)))
-    ∙ rw h
+    turn-stored t (submeshWords f base) (submeshWords f base) (runWords f base (x .points)) (λ l. refl) d d′ o (o + 5 * k) (e ∙ rw (t .run)) (omega (arith, run-floats f base (x .points), t .count))
 
 -- ---- two ways to the words of points agree where the coordinates agree
 
@@ -275,7 +178,7 @@ parts-known : (s : List ℕ) (x : Mesh) (t : ℕ) → readMesh s ≡ accepted (x
 parts-known s x t e P =
     let v = parts-vertices P in
     let u = parts-submeshes P in
-    let z : meshRead s ≡ x = rw (e, meshRead) in
+    let z : meshRead s ≡ x = mesh-is s (x, t) e in
     let r : WasRead (many (readSubmesh s (widthOf (P .m)) (P .m)) (P .k) (aligned (P .q) + 32)) = rw (P .each) tt in
     let a : submeshesRead (many (readSubmesh s (widthOf (P .m)) (P .m)) (P .k) (aligned (P .q) + 32)) ≡ x .submeshes = rw (P .each) in
     record {
@@ -362,21 +265,6 @@ module _ {s : List ℕ} {n m w k first : ℕ} (K : MeshKnown s n m w k first) wh
 
 -- ---- boxes
 
-module _ (s : List ℕ) (type body end : ℕ) where
-  pub box-skipped : (type ≡ meshType → ⊥) → boxMeshes s type body end ≡ accepted []
-  box-skipped n = simp (ne-eqb type meshType n)
-
-  pub box-held : type ≡ meshType → WasRead (boxMeshes s type body end) → WasRead (readMesh (part s body end)) × (boxRead s type body end ≡ meshRead (part s body end) ∷ [])
-  box-held y r =
-      let e : boxMeshes s type body end ≡ mapped (λ x. x .0 ∷ []) (readMesh (part s body end)) = simp (eq-eqb type meshType y) in
-      let b = go (readMesh (part s body end)) (rw e at r) in
-      (b .0, ap (valueOr []) e ∙ b .1)
-    where
-      go : (v : Found Mesh) → WasRead (mapped (λ x. x .0 ∷ []) v) → WasRead v × (valueOr [] (mapped (λ x. x .0 ∷ []) v) ≡ valueOr (record { pool = []; vertices = []; submeshes = [] }, 0) v .0 ∷ [])
-      go (accepted x) r = (tt, refl)
-      go (needs l) r = absurd r
-      go (declined k) r = absurd r
-
 -- a box of another type leaves all as it was
 pub box-drawn-none : (s : List ℕ) (type body end : ℕ) → (type ≡ meshType → ⊥) → (to : Place) (d e : List ℕ)
     → (to ≡ afterMeshes to (boxRead s type body end)) × ((d ≡ sets d (to .base) (drawnNumbers (boxRead s type body end))) × (e ≡ sets e (to .off) (drawnFloats (boxRead s type body end))))
@@ -386,40 +274,6 @@ box-drawn-none s type body end n to d e =
     let y : to .off + 0 ≡ to .off = omega arith in
     let i : boxRead s type body end ≡ [] = ap (valueOr []) (box-skipped s type body end n) in
     rw i (rw (z, y) refl, (refl, refl))
-
--- the next box of a list that was read
-pub record BoxTurn (s : List ℕ) (p type body end : ℕ) : Type 0 where
-  pub starts : p + 8 ≤ body
-  pub whole : body ≤ end
-  pub ends : end ≤ length s
-  pub read : WasRead (boxMeshes s type body end)
-  pub rest : WasRead (readFrom s end)
-  pub is : meshesFrom s p ≡ boxRead s type body end ++ meshesFrom s end
-
-pub box-turn : (s : List ℕ) (p type body end : ℕ) → WasRead (readFrom s p) → headerAt s p ≡ accepted (box type body end) → BoxTurn s p type body end
-box-turn s p type body end r h = let b = header-value s p type body end h in go (omega (arith, b .2)) (omega (arith, b .0 .least, b .2, b .3)) (omega (arith, b .0 .most, b .3)) (ℕ-discrete type meshType)
-  where
-    both : (v : Found Mesh) (q : Verdict (List Mesh)) → WasRead (andThen v (λ x. andThen q (λ l. accepted (x .0 ∷ l))))
-        → WasRead (mapped (λ x. x .0 ∷ []) v) × WasRead q × (valueOr [] (andThen v (λ x. andThen q (λ l. accepted (x .0 ∷ l)))) ≡ valueOr [] (mapped (λ x. x .0 ∷ []) v) ++ valueOr [] q)
-    both (accepted x) (accepted l) r = (tt, tt, refl)
-    both (accepted x) (needs l) r = absurd r
-    both (accepted x) (declined k) r = absurd r
-    both (needs l) q r = absurd r
-    both (declined k) q r = absurd r
-
-    go : p + 8 ≤ body → body ≤ end → end ≤ length s → Dec (type ≡ meshType) → BoxTurn s p type body end
-    go a b c (yes y) =
-        let e = at-mesh s p type body end h y in
-        let i : boxMeshes s type body end ≡ mapped (λ x. x .0 ∷ []) (readMesh (part s body end)) = simp (eq-eqb type meshType y) in
-        let g = both (readMesh (part s body end)) (readFrom s end) (rw e at r) in
-        record { starts = a; whole = b; ends = c; read = rw i (g .0); rest = g .1; is = ap (valueOr []) e ∙ g .2 ∙ ap (λ (v : Verdict (List Mesh)). valueOr [] v ++ meshesFrom s end) (sym i) }
-    go a b c (no n) =
-        let e = at-other s p type body end h n in
-        let i = box-skipped s type body end n in
-        record { starts = a; whole = b; ends = c; read = rw i tt; rest = rw e at r; is = ap (valueOr []) e ∙ ap (λ (v : Verdict (List Mesh)). valueOr [] v ++ meshesFrom s end) (sym i) }
-
-pub list-end : (s : List ℕ) (p : ℕ) → headerAt s p ≡ accepted listEnd → meshesFrom s p ≡ []
-list-end s p h = ap (valueOr []) (at-end s p h)
 
 -- ---- the drawing of two lists of meshes, one after the other
 
@@ -476,40 +330,6 @@ module _ {s num₀ wrd₀ num wrd : List ℕ} {at : ℕ} {to : Place} (L : Meshe
           long = a ∙ L .long;
           long-2 = b ∙ L .long-2;
         })
-
--- ---- what measuring told
-
-pub record Listed (s : List ℕ) (n : MeshListSize) : Type 0 where
-  pub short : length s ≤ 67108864
-  pub read : WasRead (readMeshes s)
-  pub is : limited s (readMeshes s) ≡ accepted (meshesFrom s 0)
-  pub size : n ≡ listSize (meshesFrom s 0)
-
-pub listed : (s : List ℕ) (n : MeshListSize) → accepted n ≡ limited s (mapped listSize (readMeshes s)) → Listed s n
-listed s n e = go (le-or-lt (length s) 67108864)
-  where
-    go : (length s ≤ 67108864) ⊎ (67108864 < length s) → Listed s n
-    go (inl h) =
-        let v = mapped-value listSize (readMeshes s) n (e ∙ limited-yes s (mapped listSize (readMeshes s)) h) in
-        let i : meshesFrom s 0 ≡ v .0 = ap (valueOr []) (v .1) in
-        record { short = h; read = rw (v .1) tt; is = limited-yes s (readMeshes s) h ∙ v .1 ∙ ap accepted (sym i); size = sym (v .2) ∙ ap listSize (sym i) }
-    go (inr h) = absurd (let f = limited-no s (mapped listSize (readMeshes s)) h in let z : _≡_ {A = ℕ} 0 1 = cc in omega arith)
-
-pub not-listed : (s : List ℕ) (k : ℕ) → declined k ≡ limited s (mapped listSize (readMeshes s)) → limited s (readMeshes s) ≡ declined k
-not-listed s k e = go (le-or-lt (length s) 67108864)
-  where
-    go : (length s ≤ 67108864) ⊎ (67108864 < length s) → limited s (readMeshes s) ≡ declined k
-    go (inl h) = limited-yes s (readMeshes s) h ∙ mapped-declined listSize (readMeshes s) k (e ∙ limited-yes s (mapped listSize (readMeshes s)) h)
-    go (inr h) =
-        let f = limited-no s (mapped listSize (readMeshes s)) h in
-        let i : k ≡ 2 = cc in
-        limited-no s (readMeshes s) h ∙ ap declined (sym i)
-
-module _ {s : List ℕ} {n : MeshListSize} (L : Listed s n) where
-  -- its drawing's lengths
-  pub listed-lengths : (n .numbers ≡ length (drawnNumbers (meshesFrom s 0))) × (n .floats ≡ length (drawnFloats (meshesFrom s 0))) × (n .records ≡ length (drawnRecords (meshesFrom s 0)))
-  unfolding listSize
-  listed-lengths = (ap (λ (m : MeshListSize). m .numbers) (L .size), ap (λ (m : MeshListSize). m .floats) (L .size), ap (λ (m : MeshListSize). m .records) (L .size))
 
 -- ---- a drawing and three buffers
 

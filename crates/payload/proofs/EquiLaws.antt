@@ -1,15 +1,15 @@
 -- Kind 0 is read exactly where it is spelled, and reading and writing undo each other. Assumes nothing.
 use Prim.Native.Nat.{ℕ, _+_, _*_, _≤_}
-use mathlib.Core.Path.{_≡_, refl, sym, ap, _∙_}
-use mathlib.Core.Bool.{Bool, true, false, cond}
+use mathlib.Core.Path.{_≡_, sym, ap, _∙_}
+use mathlib.Core.Bool.{true}
 use mathlib.Core.List.{List, [], _∷_}
 use mathlib.Core.Logic.{_↔_}
 use native.Mathlib.Omega.{arith}
 use lib.ListN.{length}
-use Rattle.bits.specs.Verdict.{Verdict, accepted, declined}
+use Rattle.bits.specs.Verdict.{Verdict, accepted}
 use Rattle.bits.specs.Field.{field}
 use Rattle.bits.specs.Read.{numberAt}
-use Rattle.bits.proofs.VerdictLaws.{then-value, then-yes}
+use Rattle.bits.proofs.VerdictLaws.{clash, tested-value, then-value, then-yes}
 use Rattle.payload.specs.Crop.{usable}
 use Rattle.payload.specs.Payload.{fullBox}
 use Rattle.payload.specs.Words.{wordBytes}
@@ -59,13 +59,12 @@ usable-yes : (ρ : EquiFields) → usable (cropOf ρ) ≡ true → equiUsable ρ
 unfolding equiUsable
 usable-yes ρ h = rw h
 
-usable-read : (ρ ρ′ : EquiFields) → equiUsable ρ ≡ accepted ρ′ → (usable (cropOf ρ) ≡ true) × (ρ ≡ ρ′)
+pub usable-read : (ρ ρ′ : EquiFields) → equiUsable ρ ≡ accepted ρ′ → (usable (cropOf ρ) ≡ true) × (ρ ≡ ρ′)
 unfolding equiUsable
-usable-read ρ ρ′ e = go (usable (cropOf ρ)) refl e
-  where
-    go : (u : Bool) → usable (cropOf ρ) ≡ u → cond u (accepted ρ) (declined 10) ≡ accepted ρ′ → (usable (cropOf ρ) ≡ true) × (ρ ≡ ρ′)
-    go true h e = (h, cc)
-    go false h e = let z : _≡_ {A = ℕ} 0 1 = cc in absurd (omega arith)
+usable-read ρ ρ′ e =
+    let t = tested-value (usable (cropOf ρ)) (accepted ρ) 10 ρ′ e in
+    let d = t .1 in
+    (t .0, cc)
 
 -- ---- both ways
 
@@ -113,11 +112,10 @@ equi-reads = reads-laws equiRead both
 
 written-is : (ρ : EquiFields) (s : List ℕ) → equiWritten ρ ≡ accepted s → (usable (cropOf ρ) ≡ true) × (equiBytes ρ ≡ s)
 unfolding equiWritten
-written-is ρ s e = go (usable (cropOf ρ)) refl e
-  where
-    go : (u : Bool) → usable (cropOf ρ) ≡ u → cond u (accepted (equiBytes ρ)) (declined 10) ≡ accepted s → (usable (cropOf ρ) ≡ true) × (equiBytes ρ ≡ s)
-    go true h e = (h, cc)
-    go false h e = let z : _≡_ {A = ℕ} 0 1 = cc in absurd (omega arith)
+written-is ρ s e =
+    let t = tested-value (usable (cropOf ρ)) (accepted (equiBytes ρ)) 10 s e in
+    let d = t .1 in
+    (t .0, cc)
 
 bytes-spell : (ρ : EquiFields) → Equi32 ρ → usable (cropOf ρ) ≡ true → EquiSpells ρ (equiBytes ρ)
 bytes-spell ρ i u =
@@ -154,4 +152,4 @@ fields-refusal s =
     early-then (numberAt 4 s p) _ (early-number 4 s p) (λ t.
     early-then (numberAt 4 s (t .1)) _ (early-number 4 s (t .1)) (λ b.
     early-then (numberAt 4 s (b .1)) _ (early-number 4 s (b .1)) (λ l.
-    early-then (numberAt 4 s (l .1)) _ (early-number 4 s (l .1)) (λ r k e. absurd (let z : _≡_ {A = ℕ} 0 1 = cc in omega arith))))))
+    early-then (numberAt 4 s (l .1)) _ (early-number 4 s (l .1)) (λ r k e. clash (cc))))))

@@ -11,7 +11,7 @@ use lib.ListN.{length, getD, drop}
 use borrow.Author.Tests.{leb-true, eqb-true, ltb-true, le-leb, lt-leb, eq-eqb, lt-ltb, le-ltb}
 use Rattle.bits.specs.Number.{widthOf}
 use Rattle.bits.specs.Verdict.{accepted, declined, mapped}
-use Rattle.bits.proofs.VerdictLaws.{le-or-lt}
+use Rattle.bits.proofs.VerdictLaws.{le-or-lt, tested-value}
 use Rattle.payload.specs.Laws.{Words32}
 use Rattle.payload.specs.Mesh.{Mesh}
 use Rattle.payload.specs.MeshWrite.{allBelow, boxSize, every, isMesh, meshBox, meshWritten, tablesMesh}
@@ -170,11 +170,10 @@ module _ (pool coordinates rows points : List ℕ) where
 
   pub written-value : (s : List ℕ) → meshWritten pool coordinates rows points ≡ accepted s → (isMesh pool coordinates rows points ≡ true) × (s ≡ meshBox (tablesMesh pool coordinates rows points))
   unfolding meshWritten
-  written-value s e = go (isMesh pool coordinates rows points) e
-    where
-      go : (b : Bool) → cond b (accepted (meshBox (tablesMesh pool coordinates rows points))) (declined 13) ≡ accepted s → (b ≡ true) × (s ≡ meshBox (tablesMesh pool coordinates rows points))
-      go true e = (refl, cc)
-      go false e = absurd (let z : _≡_ {A = ℕ} 0 1 = cc in omega arith)
+  written-value s e =
+      let t = tested-value (isMesh pool coordinates rows points) (accepted (meshBox (tablesMesh pool coordinates rows points))) 13 s e in
+      let d = t .1 in
+      (t .0, cc)
 
   -- the answers of `judge`
   pub judged-no : isMesh pool coordinates rows points ≡ false → declined 13 ≡ mapped length (meshWritten pool coordinates rows points)

@@ -21,6 +21,7 @@ pub mod MeshTheorems
 pub mod MeshProofs
 pub mod CheckLaws
 pub mod MeasureLaws
+pub mod TurnLaws
 pub mod DrawLaws
 pub mod StockLaws
 pub mod RecordLaws

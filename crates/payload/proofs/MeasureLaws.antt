@@ -10,7 +10,7 @@ use borrow.Author.Tests.{eq-eqb, ne-eqb}
 use Rattle.bits.specs.Verdict.{Verdict, accepted, needs, declined, andThen, mapped}
 use Rattle.bits.specs.Number.{widthOf}
 use Rattle.bits.specs.Header.{box, headerAt}
-use Rattle.bits.proofs.VerdictLaws.{then-yes, then-no, mapped-value, mapped-declined}
+use Rattle.bits.proofs.VerdictLaws.{clash, then-yes, then-no, mapped-value, mapped-declined}
 use Rattle.payload.specs.Mesh.{Submesh, Mesh}
 use Rattle.payload.specs.MeshSpells.{submeshBits, SubmeshesSpell, vertexCount, submeshesAt, MeshSpells, meshType, part, sizeAt, sizes, BoxesSpell, ends, holds, skips}
 use Rattle.payload.specs.MeshRead.{readMesh, readFrom, readMeshes}
@@ -97,7 +97,7 @@ module _ (s : List ℕ) (p type body end : ℕ) (t : Totals) (h : headerAt s p �
       go (yes y) =
           let d = mapped-declined (withBody t) (readMesh (part s body end)) k (a ∙ box-counted s type body end t y) in
           ap (mapped (totalsOf t)) (at-mesh s p type body end h y ∙ then-no (readMesh (part s body end)) (λ x. andThen (readFrom s end) (λ l. accepted (x .0 ∷ l))) k d)
-      go (no n) = absurd (let f = box-skipped s type body end t n in let z : _≡_ {A = ℕ} 0 1 = cc in omega arith)
+      go (no n) = let f = box-skipped s type body end t n in clash (cc)
 
   pub measure-on : (u : Totals) → accepted u ≡ boxTotals s type body end t → mapped (totalsOf t) (readFrom s p) ≡ mapped (totalsOf u) (readFrom s end)
   measure-on u a = go (ℕ-discrete type meshType)

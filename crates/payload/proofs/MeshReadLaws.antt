@@ -9,12 +9,12 @@ use native.Mathlib.Nat.{le-of-suc-le-suc}
 use lib.Dec.{leb}
 use lib.ListN.{length, getD}
 use lib.Seq.{ext-getD}
-use borrow.Author.Tests.{le-leb, lt-leb, eq-eqb, ne-eqb}
+use borrow.Author.Tests.{le-leb, lt-leb, leb-true, eq-eqb, ne-eqb}
 use Rattle.bits.specs.Verdict.{Verdict, accepted, needs, declined, andThen}
 use Rattle.bits.specs.Field.{field}
 use Rattle.bits.specs.Number.{widthOf}
 use Rattle.bits.specs.Header.{Item, listEnd, box, headerAt}
-use Rattle.bits.proofs.VerdictLaws.{then-yes, then-no, then-value}
+use Rattle.bits.proofs.VerdictLaws.{clash, tested-value, then-yes, then-no, then-value}
 use Rattle.bits.proofs.FieldLaws.{field-lt}
 use Rattle.bits.proofs.NumberLaws.{width-enough, width-least}
 use Rattle.bits.proofs.HeaderLaws.{header-end, header-sized, sized-small, sized-past, sized-box}
@@ -57,12 +57,11 @@ module _ {A : Type 0} (low high n : ℕ) (v : Verdict A) where
   inrange-yes l h = simp (le-leb low n l, le-leb n high h)
 
   pub inrange-value : (a : A) → inRange low high n v ≡ accepted a → (low ≤ n) × (n ≤ high) × (v ≡ accepted a)
-  inrange-value a e = go (decLe low n) (decLe n high)
-    where
-      go : Dec (low ≤ n) → Dec (n ≤ high) → (low ≤ n) × (n ≤ high) × (v ≡ accepted a)
-      go (yes l) (yes h) = (l, h, sym (inrange-yes l h) ∙ e)
-      go (yes l) (no h) = absurd (let f = inrange-high (omega arith) in let z : _≡_ {A = ℕ} 0 1 = cc in omega arith)
-      go (no l) d = absurd (let f = inrange-low (omega arith) in let z : _≡_ {A = ℕ} 0 1 = cc in omega arith)
+  unfolding inRange
+  inrange-value a e =
+      let t = tested-value (leb low n) (cond (leb n high) v (declined 7)) 7 a e in
+      let u = tested-value (leb n high) v 7 a (t .1) in
+      (leb-true low n (t .0), leb-true n high (u .0), u .1)
 
 -- ---- a submesh
 
@@ -443,9 +442,9 @@ module _ (s : List ℕ) (p : ℕ) where
   header-value type body end e = go (way s p)
     where
       go : Way s p → WholeBox s p × (type ≡ typeAt s p) × (body ≡ p + 8) × (end ≡ p + sizeAt s p)
-      go (over a) = absurd (let f = header-end s p a in let z : _≡_ {A = ℕ} 0 1 = cc in omega arith)
-      go (small a b) = absurd (let f = header-small a b in let z : _≡_ {A = ℕ} 0 1 = cc in omega arith)
-      go (past a b c) = absurd (let f = header-past a b c in let z : _≡_ {A = ℕ} 0 1 = cc in omega arith)
+      go (over a) = let f = header-end s p a in clash (cc)
+      go (small a b) = let f = header-small a b in clash (cc)
+      go (past a b c) = let f = header-past a b c in clash (cc)
       go (whole b) = let f = header-whole b in (b, cc, cc, cc)
 
 -- ---- the list from a byte on

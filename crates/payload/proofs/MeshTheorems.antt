@@ -2,18 +2,18 @@
 use Prim.Native.Nat.{ℕ, zero, suc, _+_, _*_, _≤_, _<_}
 use mathlib.Core.Path.{_≡_, sym, ap, _∙_}
 use mathlib.Core.List.{List, [], _∷_}
-use mathlib.Core.Logic.{_↔_, _⊎_, inl, inr}
+use mathlib.Core.Logic.{_↔_}
 use native.Mathlib.Omega.{arith}
 use native.Mathlib.Decide.{ℕ-discrete}
 use lib.ListN.{length}
 use Rattle.bits.specs.Verdict.{Verdict, accepted, andThen, mapped}
-use Rattle.bits.proofs.VerdictLaws.{le-or-lt, then-yes, then-value, mapped-value}
+use Rattle.bits.proofs.VerdictLaws.{clash, then-yes, then-value, mapped-value}
 use Rattle.payload.specs.Mesh.{Mesh}
 use Rattle.payload.specs.MeshSpells.{sizeAt, typeAt, meshType, part, WholeBox, BoxesSpell, ends, holds, skips, MeshesSpell}
 use Rattle.payload.specs.MeshRead.{readMesh, readFrom, readMeshes}
 use Rattle.payload.specs.Tables.{bodyRead}
 use Rattle.payload.specs.Laws.{MeshesReads, BodySpells, MeshReads}
-use Rattle.payload.proofs.PayloadLaws.{limited-yes, limited-no}
+use Rattle.payload.proofs.PayloadLaws.{limited-yes, limited-value}
 use Rattle.payload.proofs.ReadLaws.{reads-laws}
 use Rattle.payload.proofs.MeshReadLaws.{mesh-spells, spells-mesh, Way, over, small, past, whole, way, from-end, from-small, from-past, from-mesh, from-other}
 
@@ -34,8 +34,8 @@ boxes-spell s (suc turns) p l i h e = go (way s p) (ℕ-discrete (typeAt s p) me
         let f = from-end s p a in
         let z : l ≡ [] = cc in
         rw z (ends i a)
-    go (small a b) d ih = absurd (let f = from-small s p a b in let z : _≡_ {A = ℕ} 0 1 = cc in omega arith)
-    go (past a b c) d ih = absurd (let f = from-past s p a b c in let z : _≡_ {A = ℕ} 0 1 = cc in omega arith)
+    go (small a b) d ih = let f = from-small s p a b in clash (cc)
+    go (past a b c) d ih = let f = from-past s p a b c in clash (cc)
     go (whole b) (no n) ih = skips b n (ih b l (sym (from-other s p b n) ∙ e))
     go (whole b) (yes y) ih =
         let f = then-value (readMesh (part s (p + 8) (p + sizeAt s p))) (λ x. andThen (readFrom s (p + sizeAt s p)) (λ l. accepted (x .0 ∷ l))) l (sym (from-mesh s p b y) ∙ e) in
@@ -60,13 +60,13 @@ meshes-reads = reads-laws readMeshes both
 -- ---- a mesh body alone
 
 body-both : (x : Mesh) (s : List ℕ) → (bodyRead s ≡ accepted x) ↔ BodySpells x s
-body-both x s = (λ e. go (le-or-lt (length s) 67108864) e, λ b. back (b .0) (spells-mesh s x (b .1)))
+body-both x s = (forth, λ b. back (b .0) (spells-mesh s x (b .1)))
   where
-    go : (length s ≤ 67108864) ⊎ (67108864 < length s) → bodyRead s ≡ accepted x → BodySpells x s
-    go (inl l) e =
-        let m = mapped-value (λ (y : Mesh × ℕ). y .0) (readMesh s) x (sym (sym (limited-yes s (mapped (λ (y : Mesh × ℕ). y .0) (readMesh s)) l) ∙ e)) in
-        (l, rw (m .2) at (mesh-spells s (m .0 .0) (m .0 .1) (m .1)))
-    go (inr l) e = absurd (let d = limited-no s (mapped (λ (y : Mesh × ℕ). y .0) (readMesh s)) l in let z : _≡_ {A = ℕ} 0 1 = cc in omega arith)
+    forth : bodyRead s ≡ accepted x → BodySpells x s
+    forth e =
+        let l = limited-value s (mapped (λ (y : Mesh × ℕ). y .0) (readMesh s)) x e in
+        let m = mapped-value (λ (y : Mesh × ℕ). y .0) (readMesh s) x (sym (l .1)) in
+        (l .0, rw (m .2) at (mesh-spells s (m .0 .0) (m .0 .1) (m .1)))
 
     back : length s ≤ 67108864 → (q : ℕ) × (readMesh s ≡ accepted (x, q)) → bodyRead s ≡ accepted x
     back l (q, e) = limited-yes s (mapped (λ (y : Mesh × ℕ). y .0) (readMesh s)) l ∙ ap (mapped (λ (y : Mesh × ℕ). y .0)) e

@@ -1,18 +1,17 @@
 -- Laws of a payload's limit, of the numbers in it, and of the version byte with its three free bytes. Assumes nothing.
-use mathlib.Core.Path.{_≡_, ap, _∙_}
+use mathlib.Core.Path.{_≡_, refl, sym, ap, _∙_}
 use mathlib.Core.Bool.{Bool, true, false, cond}
 use mathlib.Core.List.{List}
 use mathlib.Core.Logic.{_⊎_, inl, inr}
 use Prim.Native.Nat.{ℕ, _+_, _*_, _≤_, _<_}
-use native.Mathlib.Decide.{ℕ-discrete}
 use native.Mathlib.Omega.{arith}
 use lib.ListN.{length}
-use lib.Dec.{eqb}
-use borrow.Author.Tests.{le-leb, lt-leb, eq-eqb, ne-eqb}
-use Rattle.bits.specs.Verdict.{Verdict, accepted, declined, andThen}
+use lib.Dec.{leb, eqb}
+use borrow.Author.Tests.{le-leb, lt-leb, leb-true, eqb-true}
+use Rattle.bits.specs.Verdict.{Verdict, accepted, declined, andThen, mapped}
 use Rattle.bits.specs.Field.{field}
 use Rattle.bits.specs.Read.{numberAt, placeIn}
-use Rattle.bits.proofs.VerdictLaws.{within-yes, within-value, within-refused, then-value, then-declined}
+use Rattle.bits.proofs.VerdictLaws.{le-or-lt, tested-value, within-yes, within-value, within-refused, then-value, then-declined}
 use Rattle.payload.specs.Payload.{limited, fullBox}
 
 module _ {A : Type 0} (s : List ℕ) (v : Verdict A) where
@@ -23,6 +22,23 @@ module _ {A : Type 0} (s : List ℕ) (v : Verdict A) where
   pub limited-no : 67108864 < length s → limited s v ≡ declined 2
   unfolding limited
   limited-no h = simp (lt-leb (length s) 67108864 h)
+
+  pub limited-value : (a : A) → limited s v ≡ accepted a → (length s ≤ 67108864) × (v ≡ accepted a)
+  unfolding limited
+  limited-value a e = let t = tested-value (leb (length s) 67108864) v 2 a e in (leb-true (length s) 67108864 (t .0), t .1)
+
+-- the limit stands before every step
+module _ {A B : Type 0} (s : List ℕ) where
+  pub limited-then : (v : Verdict A) (f : A → Verdict B) → limited s (andThen v f) ≡ andThen (limited s v) f
+  unfolding limited
+  limited-then v f = go (leb (length s) 67108864)
+    where
+      go : (b : Bool) → cond b (andThen v f) (declined 2) ≡ andThen (cond b v (declined 2)) f
+      go true = refl
+      go false = refl
+
+  pub limited-mapped : (f : A → B) (v : Verdict A) → limited s (mapped f v) ≡ mapped f (limited s v)
+  limited-mapped f v = limited-then v (λ x. accepted (f x))
 
 -- ---- a number of n bytes that is there, and what one that was read tells
 
@@ -48,18 +64,9 @@ module _ (s : List ℕ) where
       let a = then-value (numberAt 1 s 0) _ p e in
       let v = a .0 in
       let r = number-read 1 s 0 (v .0) (v .1) (a .1) in
-      judge (v .0) (v .1) (r .1) (r .2) (ℕ-discrete (v .0) 0) (a .2)
-    where
-      judge : (x q : ℕ) → field s 0 8 ≡ x → 1 ≡ q → Dec (x ≡ 0) → cond (eqb x 0) (placeIn s (q + 3)) (declined 4) ≡ accepted p → (4 ≤ length s) × (field s 0 8 ≡ 0) × (p ≡ 4)
-      judge x q f g (yes z) h =
-          let w = within-value (q + 3) (length s) (q + 3) 3 p (rw (eq-eqb x 0 z) at h) in
-          let k : q + 3 ≡ p = w .1 in
-          let l : q + 3 ≤ length s = w .0 in
-          (omega arith, f ∙ z, omega arith)
-      judge x q f g (no z) h =
-          let d : declined 4 ≡ accepted p = rw (ne-eqb x 0 z) at h in
-          let w : _≡_ {A = ℕ} 0 1 = cc in
-          absurd (omega arith)
+      let t = tested-value (eqb (v .0) 0) (placeIn s (v .1 + 3)) 4 p (a .2) in
+      let w = within-value (v .1 + 3) (length s) (v .1 + 3) 3 p (t .1) in
+      (omega (arith, w .0, r .2), r .1 ∙ eqb-true (v .0) 0 (t .0), omega (arith, w .1, r .2))
 
 -- ---- which numbers the fields of kinds 0 and 1 are declined with
 
@@ -87,3 +94,10 @@ early-box s = early-then (numberAt 1 s 0) _ (early-number 1 s 0) (λ x k e. vers
     version : (b : Bool) (q k : ℕ) → cond b (placeIn s (q + 3)) (declined 4) ≡ declined k → k ≤ 4
     version true q k e = early-place s (q + 3) k e
     version false q k e = let z : 4 ≡ k = cc in omega arith
+
+pub early-limited : {A : Type 0} (s : List ℕ) (v : Verdict A) → Early v → Early (limited s v)
+early-limited s v h k e = go (le-or-lt (length s) 67108864)
+  where
+    go : (length s ≤ 67108864) ⊎ (67108864 < length s) → k ≤ 4
+    go (inl l) = h k (sym (limited-yes s v l) ∙ e)
+    go (inr l) = let n = limited-no s v l in let z : 2 ≡ k = cc in omega arith

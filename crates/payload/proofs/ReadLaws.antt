@@ -3,23 +3,23 @@ use Prim.Native.Nat.{ℕ}
 use mathlib.Core.Path.{_≡_}
 use mathlib.Core.List.{List}
 use mathlib.Core.Logic.{_↔_}
-use native.Mathlib.Omega.{arith}
 use Rattle.bits.specs.Verdict.{Verdict, accepted, declined}
+use Rattle.bits.proofs.VerdictLaws.{clash}
 use Rattle.payload.specs.Laws.{Reads, Writes}
 
 module _ {R : Type 0} (read : List ℕ → Verdict R) where
   once : (s : List ℕ) (ρ ρ′ : R) → read s ≡ accepted ρ → read s ≡ accepted ρ′ → ρ ≡ ρ′
   once s ρ ρ′ p q = cc
 
-  clash : (s : List ℕ) (k : ℕ) (ρ : R) → read s ≡ declined k → read s ≡ accepted ρ → ⊥
-  clash s k ρ p q = let z : _≡_ {A = ℕ} 0 1 = cc in omega arith
+  not-both : (s : List ℕ) (k : ℕ) (ρ : R) → read s ≡ declined k → read s ≡ accepted ρ → ⊥
+  not-both s k ρ p q = clash (cc)
 
   pub reads-laws : {Spells : R → List ℕ → Type 0} → ((ρ : R) (s : List ℕ) → (read s ≡ accepted ρ) ↔ Spells ρ s) → Reads R Spells read
   reads-laws e =
       record {
         reads = e;
         spells-once = λ ρ ρ′ s p q. once s ρ ρ′ (e ρ s .1 p) (e ρ′ s .1 q);
-        declined-spells-nothing = λ s k d ρ p. clash s k ρ d (e ρ s .1 p);
+        declined-spells-nothing = λ s k d ρ p. not-both s k ρ d (e ρ s .1 p);
       }
 
 pub writes-laws : {R : Type 0} {Spells ReadAs : R → List ℕ → Type 0} {InRange : R → Type 0} {written : R → Verdict (List ℕ)} {Plain : R → List ℕ → Type 0} → ((ρ : R) (s : List ℕ) → ReadAs ρ s ↔ Spells ρ s)

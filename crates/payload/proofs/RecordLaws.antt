@@ -21,10 +21,11 @@ use Rattle.payload.specs.Internal.{WasRead, valueOr, submeshesRead, mesh
 use Rattle.payload.specs.declared.mesh.draw.Record.{Record}
 use Rattle.payload.specs.declared.mesh.draw.RecordPlace.{RecordPlace}
 use Rattle.payload.specs.declared.mesh.measure.MeshListSize.{MeshListSize}
-use Rattle.payload.proofs.FillLaws.{sets-append, sets-after, front-yes, front-no}
+use Rattle.payload.proofs.FillLaws.{sets-append, front-yes, front-no}
 use Rattle.payload.proofs.StepLaws.{read-value}
 use Rattle.payload.proofs.MeasureLaws.{records-on, list-fits}
-use Rattle.payload.proofs.DrawLaws.{SubmeshTurn, MeshKnown, box-skipped, BoxTurn, list-end, Listed, not-listed, listed-lengths}
+use Rattle.payload.proofs.TurnLaws.{SubmeshTurn, turn-stored, box-skipped, BoxTurn, list-end, Listed, not-listed, listed-lengths}
+use Rattle.payload.proofs.DrawLaws.{MeshKnown}
 
 -- ---- submeshes
 
@@ -39,13 +40,7 @@ pub record-stored : (s : List ℕ) (w m left bit : ℕ) (x : Submesh) (r : Recor
     ≡ sets d′ (o + 5) (submeshRecords (r .mesh) (r .first + r .points) (submeshesRead (many (readSubmesh s w m) (left - 1) (bit + (48 + r .points * w)))))
 unfolding submeshRecords
 record-stored s w m left bit x r d d′ o t a b e =
-    let l = submeshesRead (many (readSubmesh s w m) (left - 1) (bit + (48 + r .points * w))) in
-    let i : r .texture ≡ x .texture = a ∙ t .texture in
-    let j : r .mode ≡ x .mode = b ∙ t .mode in
-    let h : d′ ≡ sets d o (r .mesh ∷ x .texture ∷ x .mode ∷ r .first ∷ length (x .points) ∷ []) = e ∙ ap (sets d o) (λ k. r .mesh ∷ i k ∷ j k ∷ r .first ∷ t .count k ∷ []) in
-    ap (λ (y : List Submesh). sets d o (submeshRecords (r .mesh) (r .first) y)) (t .is)
-    ∙ sets-after (r .mesh ∷ x .texture ∷ x .mode ∷ r .first ∷ length (x .points) ∷ []) (submeshRecords (r .mesh) (r .first + length (x .points)) l) d o (o + 5) refl
-    ∙ rw h (ap (λ (k : ℕ). sets (sets d o (r .mesh ∷ x .texture ∷ x .mode ∷ r .first ∷ length (x .points) ∷ [])) (o + 5) (submeshRecords (r .mesh) (r .first + k) l)) (sym (t .count)))
+    turn-stored t (submeshRecords (r .mesh) (r .first)) (submeshRecords (r .mesh) (r .first + r .points)) (recordWords r) (λ l. rw (a ∙ t .texture, b ∙ t .mode, t .count)) d d′ o (o + 5) e refl
 
 -- ---- a mesh
 

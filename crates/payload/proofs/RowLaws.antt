@@ -12,6 +12,7 @@ use borrow.Author.Tests.{leb-true, eqb-true, le-leb, eq-eqb}
 use Rattle.bits.specs.Number.{widthOf}
 use Rattle.payload.specs.Mesh.{Submesh}
 use Rattle.payload.specs.MeshSpells.{sizes, submeshBits}
+use Rattle.bits.proofs.VerdictLaws.{clash}
 use Rattle.payload.specs.MeshWrite.{every, rowPoints, rowWithin, rowsWithin, submeshFields, submeshesFields, submeshesOf}
 use Rattle.payload.specs.Writing.{rowFits, rowsFit}
 use Rattle.payload.proofs.MeshReadLaws.{width-small}
@@ -21,7 +22,7 @@ use Rattle.payload.proofs.PutRunLaws.{rest-cons, rest-none}
 -- ---- tests together
 
 pub not-so : {A : Type 0} → false ≡ true → A
-not-so e = absurd (let z : _≡_ {A = ℕ} 0 1 = cc in omega arith)
+not-so e = clash (cc)
 
 pub every-inv : (b : Bool) (l : List Bool) → every (b ∷ l) ≡ true → (b ≡ true) × (every l ≡ true)
 unfolding every

@@ -3,15 +3,15 @@ use Prim.Native.Nat.{ℕ, zero, suc, _+_, _*_, _≤_, _<_, suc-le-suc}
 use mathlib.Core.Path.{_≡_, refl, sym, ap, _∙_}
 use mathlib.Core.List.{List, [], _∷_, _++_, append-assoc}
 use native.Mathlib.Omega.{arith}
-use native.Mathlib.Decide.{decLe}
 use native.Mathlib.Nat.{le-of-suc-le-suc, zero-lt-suc}
+use lib.Dec.{leb}
 use lib.ListN.{length, getD, length-append}
-use borrow.Author.Tests.{le-leb, lt-leb}
+use borrow.Author.Tests.{le-leb, lt-leb, leb-true}
 use Rattle.bits.specs.Verdict.{Verdict, accepted, needs, declined, andThen}
 use Rattle.bits.specs.Field.{field}
 use Rattle.bits.specs.Number.{Moves}
 use Rattle.bits.proofs.NumberLaws.{ran-moves, moves-ran}
-use Rattle.bits.proofs.VerdictLaws.{then-value}
+use Rattle.bits.proofs.VerdictLaws.{clash, tested-value, then-value}
 use Rattle.payload.specs.Run.{RunSpells, Found, complete, shift, nextOf, before, readRun}
 
 -- ---- fields that are to be complete
@@ -26,11 +26,8 @@ module _ {A : Type 0} (s : List ℕ) (e : ℕ) (v : Verdict A) where
   complete-yes h = simp (le-leb e (8 * length s) h)
 
   pub complete-value : (a : A) → complete s e v ≡ accepted a → (e ≤ 8 * length s) × (v ≡ accepted a)
-  complete-value a d = go (decLe e (8 * length s))
-    where
-      go : Dec (e ≤ 8 * length s) → (e ≤ 8 * length s) × (v ≡ accepted a)
-      go (yes h) = (h, sym (complete-yes h) ∙ d)
-      go (no h) = absurd (let f = complete-no (omega arith) in let z : _≡_ {A = ℕ} 0 1 = cc in omega arith)
+  unfolding complete
+  complete-value a d = let t = tested-value (leb e (8 * length s)) v 3 a d in (leb-true e (8 * length s) (t .0), t .1)
 
 -- ---- a turn
 
@@ -53,8 +50,8 @@ before-value n (accepted x) ns q e =
     let z : _≡_ {A = List ℕ × ℕ} (n ∷ x .0, x .1) (ns, q) = cc in
     let y : x .1 ≡ q = ap (λ (a : List ℕ × ℕ). a .1) z in
     (x .0, sym (ap (λ (a : List ℕ × ℕ). a .0) z), ap (λ (k : ℕ). accepted (x .0, k)) y)
-before-value n (needs l) ns q e = let z : _≡_ {A = ℕ} 0 1 = cc in absurd (omega arith)
-before-value n (declined k) ns q e = let z : _≡_ {A = ℕ} 0 1 = cc in absurd (omega arith)
+before-value n (needs l) ns q e = clash (cc)
+before-value n (declined k) ns q e = clash (cc)
 
 -- what a run that was read tells of its first field
 pub record First (s : List ℕ) (w limit n p : ℕ) (prior ns : List ℕ) (q : ℕ) : Type 0 where

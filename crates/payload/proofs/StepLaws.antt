@@ -1,4 +1,4 @@
--- What a run that was read tells of its next fields: one, three of one running number, five of five. Assumes nothing.
+-- What was read is what was accepted; and what a run that was read tells of its next fields: one, three of one running number, five of five. Assumes nothing.
 use Prim.Native.Nat.{ℕ, zero, suc, _+_, _-_, _*_, _≤_, _<_}
 use mathlib.Core.Path.{_≡_, refl, sym, ap, _∙_}
 use mathlib.Core.List.{List, [], _∷_, _++_}
@@ -16,15 +16,20 @@ use Rattle.payload.specs.declared.mesh.Three.{Three}
 use Rattle.payload.specs.declared.mesh.Two.{Two}
 use Rattle.payload.proofs.RunLaws.{run-first}
 
--- what was declined was not read
+-- ---- what was read is what was accepted
+
+pub was-read : {A : Type 0} (v : Verdict A) (a : A) → v ≡ accepted a → WasRead v
+was-read v a e = rw e tt
+
 pub not-read : {A : Type 0} (v : Verdict A) (k : ℕ) → v ≡ declined k → WasRead v → ⊥
 not-read v k e r = rw e at r
 
--- what was read was accepted
 pub read-value : {A : Type 0} (v : Verdict A) → WasRead v → (a : A) × (v ≡ accepted a)
 read-value (accepted a) r = (a, refl)
 read-value (needs l) r = absurd r
 read-value (declined k) r = absurd r
+
+-- ---- the next field
 
 -- nothing is left
 pub numbers-end : (s : List ℕ) (w limit n p : ℕ) (prior : List ℕ) → n ≤ 0 → runNumbers (readRun s w limit n p prior) ≡ []
@@ -52,7 +57,7 @@ turn s w limit (suc n) p prior o m = let v = read-value (readRun s w limit (suc 
         let f = run-first s w limit n p prior ns q e in
         let r = ran-moves (getD prior 0 0) (field s p w) limit (f .next) (f .ran) in
         let is : runNumbers (readRun s w limit (suc n) p prior) ≡ f .next ∷ runNumbers (readRun s w limit (suc n - 1) (p + w) (shift prior (f .next))) =
-            ap runNumbers e ∙ f .cons ∙ ap (λ v. f .next ∷ runNumbers v) (sym (f .rest)) ∙ ap (λ (k : ℕ). f .next ∷ runNumbers (readRun s w limit k (p + w) (shift prior (f .next)))) (sym z) in
+        ap runNumbers e ∙ f .cons ∙ ap (λ v. f .next ∷ runNumbers v) (sym (f .rest)) ∙ ap (λ (k : ℕ). f .next ∷ runNumbers (readRun s w limit k (p + w) (shift prior (f .next)))) (sym z) in
         rw (moves-stepped (getD prior 0 0) (field s p w) (f .next) (r .0)) (record { room = f .room; below = r .1; is = is; rest = rw (z, f .rest) tt })
 
 -- as many numbers as fields

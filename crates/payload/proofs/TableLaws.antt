@@ -4,7 +4,6 @@ use mathlib.Core.Path.{_≡_, refl, sym, ap, _∙_}
 use mathlib.Core.List.{List, [], _∷_}
 use mathlib.Core.Bool.{true, false}
 use native.Mathlib.Omega.{arith}
-use native.Mathlib.Decide.{decLe}
 use lib.ListN.{length, set, length-append}
 use lib.Seq.{sets}
 use borrow.Author.Tests.{le-leb, lt-leb}
@@ -20,10 +19,10 @@ use Rattle.payload.specs.Internal.{WasRead, runNumbers, submeshesRead, m
 use Rattle.payload.specs.Tables.{submeshRows, allPoints, poolTable, coordinateTable, submeshTable, pointTable, tableLengths, bodyRead, tablesFit, tablesAnswer, tablesInto}
 use Rattle.payload.specs.declared.mesh.measure.TableLengths.{TableLengths}
 use Rattle.payload.proofs.FillLaws.{sets-after, sets-front}
-use Rattle.payload.proofs.PayloadLaws.{limited-yes, limited-no}
-use Rattle.payload.proofs.StepLaws.{Turn, Got3, read-value}
+use Rattle.payload.proofs.PayloadLaws.{limited-yes, limited-no, limited-value}
+use Rattle.payload.proofs.StepLaws.{was-read, read-value, Turn, Got3}
 use Rattle.payload.proofs.MeshReadLaws.{words-length, MeshParts, mesh-parts, mesh-spells}
-use Rattle.payload.proofs.DrawLaws.{SubmeshTurn}
+use Rattle.payload.proofs.TurnLaws.{SubmeshTurn, turn-stored, mesh-is}
 
 -- the same list stored
 pub stored-same : (d e l m : List ℕ) → e ≡ sets d 0 l → l ≡ m → e ≡ sets d 0 m
@@ -62,12 +61,6 @@ unfolding submeshRows
 rows-length [] = refl
 rows-length (x ∷ l) = omega (arith, rows-length l)
 
--- the first submesh's row is stored, and the others' are left
-row-stored : (x : Submesh) (l m : List Submesh) (d : List ℕ) (o : ℕ) → l ≡ x ∷ m
-    → sets d o (submeshRows l) ≡ sets (sets d o (x .texture ∷ x .mode ∷ length (x .points) ∷ [])) (o + 3) (submeshRows m)
-unfolding submeshRows
-row-stored x l m d o e = rw e (sets-after (x .texture ∷ x .mode ∷ length (x .points) ∷ []) (submeshRows m) d o (o + 3) refl)
-
 -- ---- points
 
 pub points-none : (l : List Submesh) → l ≡ [] → allPoints l ≡ []
@@ -78,12 +71,6 @@ pub points-length : (l : List Submesh) → length (allPoints l) ≡ pointCount l
 unfolding allPoints
 points-length [] = refl
 points-length (x ∷ l) = length-append (x .points) (allPoints l) ∙ ap (λ (k : ℕ). length (x .points) + k) (points-length l)
-
--- the first submesh's points are stored, and the others' are left
-points-stored : (x : Submesh) (l m : List Submesh) (d : List ℕ) (o t : ℕ) → l ≡ x ∷ m → o + length (x .points) ≡ t
-    → sets d o (allPoints l) ≡ sets (sets d o (x .points)) t (allPoints m)
-unfolding allPoints
-points-stored x l m d o t e g = rw e (sets-after (x .points) (allPoints m) d o t g)
 
 -- ---- a run of vertex numbers: what is left of it goes to what is left of the buffer
 
@@ -106,27 +93,22 @@ module _ {s : List ℕ} {w m n p k : ℕ} {x : Submesh} (T : SubmeshTurn s w m n
   pub row-turn : (a b : ℕ) → a ≡ field s p 8 → b ≡ field s (p + 8) 8 → e ≡ sets d o (a ∷ b ∷ k ∷ [])
       → sets d o (submeshRows (submeshesRead (many (readSubmesh s w m) n p)))
       ≡ sets e (o + 3) (submeshRows (submeshesRead (many (readSubmesh s w m) (n - 1) (p + (48 + k * w)))))
+  unfolding submeshRows
   row-turn a b ea eb h =
-      let f : sets d o (x .texture ∷ x .mode ∷ length (x .points) ∷ []) ≡ e = rw (← T .texture, ← T .mode, ← T .count, ← ea, ← eb) (sym h) in
-      row-stored x _ _ d o (T .is) ∙ rw f
+      turn-stored T submeshRows submeshRows (x .texture ∷ x .mode ∷ length (x .points) ∷ []) (λ l. refl) d e o (o + 3) (rw (← T .texture, ← T .mode, ← T .count, ← ea, ← eb) h) refl
 
   -- its points were stored, and the others' are left
   pub points-turn : e ≡ sets d o (runNumbers (readRun s w m k (p + 48) one))
       → sets d o (allPoints (submeshesRead (many (readSubmesh s w m) n p)))
       ≡ sets e (o + k) (allPoints (submeshesRead (many (readSubmesh s w m) (n - 1) (p + (48 + k * w)))))
-  points-turn h =
-      let f : sets d o (x .points) ≡ e = sym (h ∙ rw (T .run)) in
-      points-stored x _ _ d o (o + k) (T .is) (ap (λ (j : ℕ). o + j) (sym (T .count))) ∙ rw f
+  unfolding allPoints
+  points-turn h = turn-stored T allPoints allPoints (x .points) (λ l. refl) d e o (o + k) (h ∙ rw (T .run)) (omega (arith, T .count))
 
 -- how many points all of them have
 pub points-split : {s : List ℕ} {w m n p k : ℕ} {x : Submesh} → SubmeshTurn s w m n p k x
     → length (allPoints (submeshesRead (many (readSubmesh s w m) n p))) ≡ k + length (allPoints (submeshesRead (many (readSubmesh s w m) (n - 1) (p + (48 + k * w)))))
 unfolding allPoints
 points-split {x = x} T = rw (T .is, T .count) (length-append (x .points) _)
-
--- what was accepted was read
-pub was-read : {A : Type 0} (v : Verdict A) (a : A) → v ≡ accepted a → WasRead v
-was-read v a e = rw e tt
 
 -- ---- a mesh that was read
 
@@ -194,14 +176,12 @@ pub record BodyKnown (s : List ℕ) (n : TableLengths) : Type 0 where
   pub lengths : n ≡ tableLengths (meshRead s)
 
 pub body-known : (s : List ℕ) (n : TableLengths) → accepted n ≡ mapped tableLengths (bodyRead s) → BodyKnown s n
-body-known s n e = go (decLe (length s) 67108864) (mapped-value tableLengths (bodyRead s) n e)
-  where
-    go : Dec (length s ≤ 67108864) → (x : Mesh) × (bodyRead s ≡ accepted x) × (tableLengths x ≡ n) → BodyKnown s n
-    go (no h) (x, f, g) = absurd (let d = limited-no s (mapped (λ (x : Mesh × ℕ). x .0) (readMesh s)) (omega arith) in let z : _≡_ {A = ℕ} 0 1 = cc in omega arith)
-    go (yes h) (x, f, g) =
-        let v = mapped-value (λ (x : Mesh × ℕ). x .0) (readMesh s) x (sym f ∙ limited-yes s _ h) in
-        let z : meshRead s ≡ x = rw (v .1, meshRead) (v .2) in
-        record { size = h; read = was-read (readMesh s) (v .0) (v .1); is = rw z f; lengths = rw z (sym g) }
+body-known s n e =
+    let b = mapped-value tableLengths (bodyRead s) n e in
+    let l = limited-value s (mapped (λ (x : Mesh × ℕ). x .0) (readMesh s)) (b .0) (b .1) in
+    let v = mapped-value (λ (x : Mesh × ℕ). x .0) (readMesh s) (b .0) (sym (l .1)) in
+    let z : meshRead s ≡ b .0 = mesh-is s (v .0) (v .1) ∙ v .2 in
+    record { size = l .0; read = was-read (readMesh s) (v .0) (v .1); is = rw z (b .1); lengths = rw z (sym (b .2)) }
 
 -- ---- the tables and four buffers
 

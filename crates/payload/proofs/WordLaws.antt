@@ -10,7 +10,7 @@ use lib.Seq.{sets, length-sets, length-take-le, take-suc, take-all, ext-getD}
 use Rattle.bits.specs.Field.{field}
 use Rattle.bits.specs.Put.{bytesOf, wordPut}
 use Rattle.bits.proofs.FieldLaws.{field-append, field-append-right, field-byte, field-lt, field-split, field-window}
-use Rattle.bits.proofs.ByteLaws.{length-bytes, field-bytesOf, bytes-lt}
+use Rattle.bits.proofs.ByteLaws.{length-bytes, field-bytesOf, append-lt, bytes-lt}
 use Rattle.bits.proofs.PutLaws.{word-put-yes}
 use Rattle.payload.specs.Words.{wordBytes}
 use Rattle.payload.proofs.FillLaws.{sets-append}
@@ -41,12 +41,7 @@ field-wordBytes (x ∷ l) (suc i) h b =
 pub wordBytes-lt : (l : List ℕ) (k : ℕ) → getD (wordBytes l) k 0 < 256
 unfolding wordBytes
 wordBytes-lt [] k = omega arith
-wordBytes-lt (x ∷ l) k = both (bytesOf 4 x) (wordBytes l) k (λ j. bytes-lt 4 x j) (wordBytes-lt l)
-  where
-    both : (a b : List ℕ) (i : ℕ) → ((j : ℕ) → getD a j 0 < 256) → ((j : ℕ) → getD b j 0 < 256) → getD (a ++ b) i 0 < 256
-    both [] b i f g = g i
-    both (y ∷ a) b zero f g = f zero
-    both (y ∷ a) b (suc i) f g = both a b i (λ j. f (suc j)) g
+wordBytes-lt (x ∷ l) k = append-lt (bytesOf 4 x) (wordBytes l) (λ j. bytes-lt 4 x j) (wordBytes-lt l) k
 
 -- one word more in a buffer that holds the first i of them
 pub put-next : (d l ws : List ℕ) (i : ℕ) → i < length ws → 4 * length ws ≤ length d → l ≡ sets d 0 (wordBytes (take i ws)) → wordPut l (4 * i) (getD ws i 0) ≡ sets d 0 (wordBytes (take (i + 1) ws))

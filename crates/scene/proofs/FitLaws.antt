@@ -8,7 +8,7 @@ use lib.Dec.{leb}
 use lib.ListN.{length, drop}
 use borrow.Author.Tests.{le-leb, lt-leb}
 use Rattle.bits.specs.Verdict.{Verdict, accepted, needs, declined}
-use Rattle.bits.proofs.VerdictLaws.{then-value}
+use Rattle.bits.proofs.VerdictLaws.{clash, then-value}
 use Rattle.payload.specs.Fill.{begun}
 use Rattle.scene.specs.Scene.{Named, Drawing, fits, lengthsOf, threeOf, fitted, fittedAnswer, drawnPart, recordsOf}
 use Rattle.scene.specs.Laws.{Accepted}
@@ -53,7 +53,7 @@ drawn-value v n f r (a, e) =
   where
     fine : (x : Named × Drawing) (b : Bool) → cond b (accepted (x .0, lengthsOf (x .1))) (needs (threeOf (lengthsOf (x .1)))) ≡ accepted a → b ≡ true
     fine x true e = refl
-    fine x false e = absurd (let z : _≡_ {A = ℕ} 0 1 = cc in omega arith)
+    fine x false e = clash (cc)
 
 pub part-kept : (part : Drawing → List ℕ) (v : Verdict (Named × Drawing)) (n f r : ℕ) → (Accepted (fittedAnswer v n f r) → ⊥) → (out : List ℕ) → drawnPart part v n f r out ≡ out
 part-kept part (needs l) n f r h out = refl

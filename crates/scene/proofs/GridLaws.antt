@@ -1,12 +1,13 @@
 -- A drawing of two lists, each of which may be refused: what drawing it says and leaves, from the two lengths alone. Assumes nothing.
 use Prim.Native.Nat.{ℕ, _≤_, _<_}
-use mathlib.Core.Path.{_≡_, refl, sym, ap, _∙_}
+use mathlib.Core.Path.{_≡_, sym, ap, _∙_}
 use mathlib.Core.List.{List, [], _∷_, _++_}
 use mathlib.Core.Bool.{true, false}
 use native.Mathlib.Omega.{arith}
 use lib.ListN.{length, drop}
 use borrow.Author.Tests.{le-leb}
-use Rattle.bits.specs.Verdict.{Verdict, accepted, needs, declined}
+use Rattle.bits.specs.Verdict.{Verdict, accepted, needs, declined, mapped}
+use Rattle.bits.proofs.VerdictLaws.{clash, then-value, mapped-value}
 use Rattle.payload.specs.Fill.{front, bothLengths}
 use Rattle.scene.specs.Scene.{Named, Drawing, fits, lengthsOf, threeOf, fittedAnswer, drawnPart, numbersOf, floatsOf}
 use Rattle.scene.specs.Internal.{gridFound}
@@ -24,10 +25,10 @@ drew-declined v ns fs k e = (rw e, (rw e, rw e))
 
 module _ (x : Named) where
   grid-refused : (v w : Verdict (List ℕ)) (k : ℕ) → declined k ≡ bothLengths v w → gridFound x v w ≡ declined k
-  grid-refused (accepted l) (accepted m) k e = absurd (let z : _≡_ {A = ℕ} 0 1 = cc in omega arith)
-  grid-refused (accepted l) (needs q) k e = absurd (let z : _≡_ {A = ℕ} 0 1 = cc in omega arith)
+  grid-refused (accepted l) (accepted m) k e = clash (cc)
+  grid-refused (accepted l) (needs q) k e = clash (cc)
   grid-refused (accepted l) (declined j) k e = let z : j ≡ k = cc in ap (λ (i : ℕ). declined i) z
-  grid-refused (needs q) w k e = absurd (let z : _≡_ {A = ℕ} 0 1 = cc in omega arith)
+  grid-refused (needs q) w k e = clash (cc)
   grid-refused (declined j) w k e = let z : j ≡ k = cc in ap (λ (i : ℕ). declined i) z
 
   pub grid-declined : (v w : Verdict (List ℕ)) (ns fs : List ℕ) (k : ℕ) → declined k ≡ bothLengths v w → Drew (gridFound x v w) ns fs (declined k) ns fs
@@ -43,13 +44,10 @@ pub record Both (v w : Verdict (List ℕ)) (n f : ℕ) : Type 0 where
   pub f-is : f ≡ length m
 
 pub both : (v w : Verdict (List ℕ)) (n f : ℕ) → accepted (n, f) ≡ bothLengths v w → Both v w n f
-both (accepted l) (accepted m) n f e =
-    let p : _≡_ {A = ℕ × ℕ} (n, f) (length l, length m) = cc in
-    record { l = l; m = m; v-is = refl; w-is = refl; n-is = ap (λ (y : ℕ × ℕ). y .0) p; f-is = ap (λ (y : ℕ × ℕ). y .1) p }
-both (accepted l) (needs q) n f e = absurd (let z : _≡_ {A = ℕ} 0 1 = cc in omega arith)
-both (accepted l) (declined j) n f e = absurd (let z : _≡_ {A = ℕ} 0 1 = cc in omega arith)
-both (needs q) w n f e = absurd (let z : _≡_ {A = ℕ} 0 1 = cc in omega arith)
-both (declined j) w n f e = absurd (let z : _≡_ {A = ℕ} 0 1 = cc in omega arith)
+both v w n f e =
+    let t = then-value v (λ l. mapped (λ m. (length l, length m)) w) (n, f) (sym e) in
+    let u = mapped-value (λ m. (length (t .0), length m)) w (n, f) (sym (t .2)) in
+    record { l = t .0; m = u .0; v-is = t .1; w-is = u .1; n-is = ap (λ (y : ℕ × ℕ). y .0) (sym (u .2)); f-is = ap (λ (y : ℕ × ℕ). y .1) (sym (u .2)) }
 
 module _ (x : Named) (v w : Verdict (List ℕ)) (ns fs : List ℕ) (n f : ℕ) (b : Both v w n f) where
   two : Drawing

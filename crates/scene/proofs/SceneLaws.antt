@@ -3,12 +3,11 @@ use Prim.Native.Nat.{ℕ}
 use mathlib.Core.Path.{_≡_, refl, ap, _∙_}
 use mathlib.Core.List.{List}
 use mathlib.Core.Bool.{Bool, true, false, cond}
-use native.Mathlib.Omega.{arith}
 use lib.ListN.{length}
 use lib.Ieee.{Float, ofBits, add, eq, lt, le}
 use borrow.Author.Tests.{ne-eqb}
 use Rattle.bits.specs.Verdict.{Verdict, accepted, declined}
-use Rattle.bits.proofs.VerdictLaws.{then-yes, then-no}
+use Rattle.bits.proofs.VerdictLaws.{clash, then-yes, then-no}
 use Rattle.payload.specs.Float.{f0}
 use Rattle.payload.specs.Crop.{sideUsable, usable, full}
 use Rattle.payload.specs.Fill.{bothLengths}
@@ -130,7 +129,7 @@ module _ (rings sectors : ℕ) where
   refusal-grid k j e d = rw e (go (gridUsable rings sectors) (grid-told (declined j) d))
     where
       go : (b : Bool) → _≡_ {A = Verdict (ℕ × ℕ)} (declined j) (cond b (accepted (length (gridTriangles rings sectors (eq f0 f0) (eq f0 f0)), length (gridUvs rings sectors))) (declined 9)) → j ≡ cond b 10 9
-      go true i = absurd (let z : _≡_ {A = ℕ} 0 1 = cc in omega arith)
+      go true i = clash (cc)
       go false i = cc
 
   pub refusal-crop : (k n f : ℕ) → k ≡ 10 → accepted (n, f) ≡ bothLengths (sphereNumbers rings sectors full) (sphereUvs rings sectors) → 10 ≡ afterGrid k rings sectors
@@ -138,4 +137,4 @@ module _ (rings sectors : ℕ) where
     where
       go : (b : Bool) → _≡_ {A = Verdict (ℕ × ℕ)} (accepted (n, f)) (cond b (accepted (length (gridTriangles rings sectors (eq f0 f0) (eq f0 f0)), length (gridUvs rings sectors))) (declined 9)) → _≡_ {A = ℕ} 10 (cond b 10 9)
       go true i = refl
-      go false i = absurd (let z : _≡_ {A = ℕ} 0 1 = cc in omega arith)
+      go false i = clash (cc)

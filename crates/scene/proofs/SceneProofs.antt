@@ -1,15 +1,14 @@
 -- Demand 3 of the request. Assumes nothing.
 use Prim.Native.Nat.{ℕ, _+_, _*_, _≤_, _<_}
-use mathlib.Core.Path.{_≡_, refl, sym, ap, _∙_}
+use mathlib.Core.Path.{_≡_, sym, ap, _∙_}
 use mathlib.Core.List.{List, _++_}
-use mathlib.Core.Bool.{Bool, true, false, cond}
+use mathlib.Core.Bool.{Bool, true, cond}
 use mathlib.Core.Logic.{_↔_}
-use native.Mathlib.Omega.{arith}
 use lib.Dec.{ltb}
 use lib.ListN.{length, drop}
 use borrow.Author.Tests.{le-leb, lt-ltb, ltb-true}
 use Rattle.bits.specs.Verdict.{accepted, declined, andThen, mapped}
-use Rattle.bits.proofs.VerdictLaws.{then-value, then-yes, mapped-value}
+use Rattle.bits.proofs.VerdictLaws.{tested-value, then-value, then-yes, mapped-value}
 use Rattle.payload.specs.Equi.{equiFields, equiUsable, equiRead}
 use Rattle.payload.specs.Cbmp.{CbmpSpells, cbmpRead}
 use Rattle.payload.specs.Sphere.{gridUsable}
@@ -22,6 +21,7 @@ use Rattle.payload.proofs.MeshTheorems.{meshes-reads}
 use Rattle.scene.specs.Scene.{Kind, equi, cbmp, mesh, kindOf, Reading, Spells, Given, GridLimits, CubeLimits, InLimits, Drawable, Named, Drawing, drawing, nameOf, readEqui, cubeUsable, readCbmp, readKind, foundAs, sceneFound, fits, lengthsOf, sceneAnswer, scenePart}
 use Rattle.scene.specs.Laws.{Accepted, Judged, Drawn, SceneAccepts}
 use Rattle.scene.proofs.FitLaws.{drawn-yes, drawn-value, part-yes, part-kept}
+use Rattle.scene.proofs.KindLaws.{named}
 
 -- ---- kind 0: with a usable grid the reading is that of the payload alone
 
@@ -48,11 +48,10 @@ cube-yes : (g : Given) (p : ℕ) → CubeLimits g → p ≤ 4096 → 2 * p < g .
 cube-yes g p h l d = cube-same g p h l ∙ ap (λ (t : Bool). cond t (accepted p) (declined 11)) (lt-ltb (2 * p) (g .face-width) d)
 
 cube-value : (g : Given) (p q : ℕ) → CubeLimits g → p ≤ 4096 → cubeUsable (g .cells) (g .radius) (g .face-width) p ≡ accepted q → (p ≡ q) × (2 * p < g .face-width)
-cube-value g p q h l e = go (ltb (2 * p) (g .face-width)) refl (sym (cube-same g p h l) ∙ e)
-  where
-    go : (t : Bool) → ltb (2 * p) (g .face-width) ≡ t → cond t (accepted p) (declined 11) ≡ accepted q → (p ≡ q) × (2 * p < g .face-width)
-    go true i e = (cc, ltb-true (2 * p) (g .face-width) i)
-    go false i e = absurd (let z : _≡_ {A = ℕ} 0 1 = cc in omega arith)
+cube-value g p q h l e =
+    let t = tested-value (ltb (2 * p) (g .face-width)) (accepted p) 11 q (sym (cube-same g p h l) ∙ e) in
+    let d = t .1 in
+    (cc, ltb-true (2 * p) (g .face-width) (t .0))
 
 -- ---- every kind is read exactly where a drawable reading spells the payload
 
@@ -82,11 +81,11 @@ once mesh ρ ρ′ s a b = meshes-reads .spells-once ρ ρ′ s a b
 -- ---- what such a call finds
 
 module _ (kind : ℕ) (k : Kind) (g : Given) (s : List ℕ) (j : Judged kind k g s) where
-  found : sceneFound kind g s ≡ mapped (λ ρ. (nameOf k ρ, drawing k g ρ)) (readKind k g s)
-  found = then-yes (kindOf kind) (λ q. foundAs q g s) k (j .kind-is) ∙ limited-yes s (mapped (λ ρ. (nameOf k ρ, drawing k g ρ)) (readKind k g s)) (j .size)
+  found : sceneFound kind g s ≡ mapped (named k g) (readKind k g s)
+  found = then-yes (kindOf kind) (λ q. foundAs q g s) k (j .kind-is) ∙ limited-yes s (mapped (named k g) (readKind k g s)) (j .size)
 
   found-reading : (ρ : Reading k) → Drawable k g ρ → Spells k ρ s → sceneFound kind g s ≡ accepted (nameOf k ρ, drawing k g ρ)
-  found-reading ρ d p = found ∙ ap (mapped (λ ρ. (nameOf k ρ, drawing k g ρ))) (reads k g s ρ (j .limits) .1 (d, p))
+  found-reading ρ d p = found ∙ ap (mapped (named k g)) (reads k g s ρ (j .limits) .1 (d, p))
 
   module _ (n f r : ℕ) where
     names : (ρ : Reading k) → Drawn k g s n f r ρ → sceneAnswer kind g s n f r ≡ accepted (nameOf k ρ, lengthsOf (drawing k g ρ))
@@ -98,7 +97,7 @@ module _ (kind : ℕ) (k : Kind) (g : Given) (s : List ℕ) (j : Judged kind k g
     accepts : Accepted (sceneAnswer kind g s n f r) → (ρ : Reading k) × Drawn k g s n f r ρ
     accepts a =
         let v = drawn-value (sceneFound kind g s) n f r a in
-        let m = mapped-value (λ ρ. (nameOf k ρ, drawing k g ρ)) (readKind k g s) (v .0) (sym (v .1 .0) ∙ found) in
+        let m = mapped-value (named k g) (readKind k g s) (v .0) (sym (v .1 .0) ∙ found) in
         let d = reads k g s (m .0) (j .limits) .0 (m .1) in
         let z : drawing k g (m .0) ≡ v .0 .1 = ap (λ (y : Named × Drawing). y .1) (m .2) in
         (m .0, record { drawable = d .0; spells = d .1; fitting = ap (λ (y : Drawing). fits y n f r) z ∙ v .1 .1 })

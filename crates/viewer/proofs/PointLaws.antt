@@ -1,16 +1,13 @@
 -- The points of a measured mesh list are those of its meshes. Assumes nothing.
 use mathlib.Core.Path.{_≡_, refl, sym, ap, _∙_}
 use mathlib.Core.List.{List}
-use mathlib.Core.Logic.{_⊎_, inl, inr}
-use Prim.Native.Nat.{ℕ, _≤_, _<_}
-use lib.ListN.{length}
+use Prim.Native.Nat.{ℕ}
 use Rattle.bits.specs.Verdict.{Verdict, accepted, needs, declined, mapped}
-use Rattle.bits.proofs.VerdictLaws.{le-or-lt}
 use Rattle.payload.specs.Payload.{limited}
 use Rattle.payload.specs.Mesh.{Mesh}
 use Rattle.payload.specs.MeshDrawing.{pointTotal}
 use Rattle.payload.specs.Meshes.{listSize}
-use Rattle.payload.proofs.PayloadLaws.{limited-yes, limited-no}
+use Rattle.payload.proofs.PayloadLaws.{limited-mapped}
 use Rattle.viewer.specs.Number.{pointsOf}
 
 inside : (v : Verdict (List Mesh)) → mapped pointsOf (mapped listSize v) ≡ mapped pointTotal v
@@ -20,8 +17,4 @@ inside (needs q) = refl
 inside (declined k) = refl
 
 pub points-measured : (s : List ℕ) (v : Verdict (List Mesh)) → mapped pointsOf (limited s (mapped listSize v)) ≡ limited s (mapped pointTotal v)
-points-measured s v = go (le-or-lt (length s) 67108864)
-  where
-    go : (length s ≤ 67108864) ⊎ (67108864 < length s) → mapped pointsOf (limited s (mapped listSize v)) ≡ limited s (mapped pointTotal v)
-    go (inl h) = ap (mapped pointsOf) (limited-yes s (mapped listSize v) h) ∙ inside v ∙ sym (limited-yes s (mapped pointTotal v) h)
-    go (inr h) = ap (mapped pointsOf) (limited-no s (mapped listSize v) h) ∙ sym (limited-no s (mapped pointTotal v) h)
+points-measured s v = ap (mapped pointsOf) (limited-mapped s listSize v) ∙ inside (limited s v) ∙ sym (limited-mapped s pointTotal v)

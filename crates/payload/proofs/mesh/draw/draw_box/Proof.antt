@@ -2,7 +2,8 @@
 use native.Mathlib.Omega.{arith}
 use lib.ListN.{length-take}
 use denote.Ref.{now}
-use Rattle.payload.proofs.DrawLaws.{box-held, box-drawn-none}
+use Rattle.payload.proofs.TurnLaws.{box-held}
+use Rattle.payload.proofs.DrawLaws.{box-drawn-none}
 use borrow.Author.Needs.{needs}
 use Rattle.payload.proofs.mesh.draw.draw_box.Statement.{statement}
 use Rattle.payload.proofs.mesh.draw.draw_box.Tie as tie

@@ -8,7 +8,8 @@ use Rattle.bits.specs.Header.{headerSays}
 use Rattle.payload.specs.MeshRead.{readFrom}
 use Rattle.payload.proofs.StepLaws.{not-read}
 use Rattle.payload.proofs.MeshReadLaws.{at-declined}
-use Rattle.payload.proofs.DrawLaws.{BoxTurn, box-turn, MeshesLeft, meshes-end, meshes-room, meshes-on}
+use Rattle.payload.proofs.TurnLaws.{BoxTurn, box-turn}
+use Rattle.payload.proofs.DrawLaws.{MeshesLeft, meshes-end, meshes-room, meshes-on}
 use borrow.Author.Needs.{needs}
 use Rattle.payload.proofs.mesh.draw.draw_boxes.Statement.{statement}
 use Rattle.payload.proofs.mesh.draw.draw_boxes.Tie as tie

@@ -11,7 +11,8 @@ use Rattle.payload.specs.Mesh.{Submesh}
 use Rattle.payload.specs.MeshRead.{many, readSubmesh}
 use Rattle.payload.specs.MeshDrawing.{submeshWords, pointCount}
 use Rattle.payload.specs.Internal.{wordAt, StockedFrom, submeshesRead}
-use Rattle.payload.proofs.DrawLaws.{SubmeshTurn, SubmeshesLeft, submeshes-left, left-turn, left-room, left-on, submesh-drawn, submesh-words-none, submeshes-end, points-first}
+use Rattle.payload.proofs.TurnLaws.{SubmeshTurn, SubmeshesLeft, submeshes-left, left-turn, left-room, left-on, submeshes-end, points-first}
+use Rattle.payload.proofs.DrawLaws.{submesh-drawn, submesh-words-none}
 use Rattle.payload.proofs.StockLaws.{stocked-after-run}
 use borrow.Author.Needs.{needs}
 use Rattle.payload.proofs.mesh.draw.draw_submeshes.Statement.{statement}

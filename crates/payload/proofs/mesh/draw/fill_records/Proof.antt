@@ -11,7 +11,7 @@ use Rattle.payload.specs.Mesh.{Submesh}
 use Rattle.payload.specs.MeshRead.{many, readSubmesh}
 use Rattle.payload.specs.MeshDrawing.{submeshRecords, pointCount}
 use Rattle.payload.specs.Internal.{submeshesRead}
-use Rattle.payload.proofs.DrawLaws.{SubmeshTurn, SubmeshesLeft, submeshes-left, left-turn, left-room, left-on, submeshes-end, points-first}
+use Rattle.payload.proofs.TurnLaws.{SubmeshTurn, SubmeshesLeft, submeshes-left, left-turn, left-room, left-on, submeshes-end, points-first}
 use Rattle.payload.proofs.RecordLaws.{records-none, record-stored}
 use borrow.Author.Needs.{needs}
 use Rattle.payload.proofs.mesh.draw.fill_records.Statement.{statement}

@@ -3,7 +3,7 @@ use mathlib.Core.Path.{sym, ap, _∙_}
 use native.Mathlib.Omega.{arith}
 use denote.Ref.{now}
 use Rattle.payload.specs.Meshes.{measuredSays}
-use Rattle.payload.proofs.DrawLaws.{Listed, listed, listed-lengths}
+use Rattle.payload.proofs.TurnLaws.{Listed, listed, listed-lengths}
 use Rattle.payload.proofs.RecordLaws.{records-declined, records-short, records-all}
 use borrow.Author.Needs.{needs}
 use Rattle.payload.proofs.mesh.draw.mesh_records.Statement.{statement}

@@ -3,7 +3,8 @@ use mathlib.Core.Path.{sym, ap, _∙_}
 use native.Mathlib.Omega.{arith}
 use denote.Ref.{now}
 use Rattle.payload.specs.Meshes.{measuredSays}
-use Rattle.payload.proofs.DrawLaws.{Listed, listed, listed-lengths, draws-declined, draws-short₁, draws-short₂, draws-short₃, draws-all}
+use Rattle.payload.proofs.TurnLaws.{Listed, listed, listed-lengths}
+use Rattle.payload.proofs.DrawLaws.{draws-declined, draws-short₁, draws-short₂, draws-short₃, draws-all}
 use borrow.Author.Needs.{needs}
 use Rattle.payload.proofs.mesh.draw.parse_meshes.Statement.{statement}
 use Rattle.payload.proofs.mesh.draw.parse_meshes.Tie as tie

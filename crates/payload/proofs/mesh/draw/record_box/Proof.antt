@@ -2,7 +2,7 @@
 use native.Mathlib.Omega.{arith}
 use lib.ListN.{length-take}
 use denote.Ref.{now}
-use Rattle.payload.proofs.DrawLaws.{box-held}
+use Rattle.payload.proofs.TurnLaws.{box-held}
 use Rattle.payload.proofs.RecordLaws.{box-recorded-none}
 use borrow.Author.Needs.{needs}
 use Rattle.payload.proofs.mesh.draw.record_box.Statement.{statement}

@@ -8,7 +8,7 @@ use Rattle.bits.specs.Header.{headerSays}
 use Rattle.payload.specs.MeshRead.{readFrom}
 use Rattle.payload.proofs.StepLaws.{not-read}
 use Rattle.payload.proofs.MeshReadLaws.{at-declined}
-use Rattle.payload.proofs.DrawLaws.{BoxTurn, box-turn}
+use Rattle.payload.proofs.TurnLaws.{BoxTurn, box-turn}
 use Rattle.payload.proofs.RecordLaws.{RecordsLeft, records-start, records-end, records-room, records-on-box}
 use borrow.Author.Needs.{needs}
 use Rattle.payload.proofs.mesh.draw.record_boxes.Statement.{statement}

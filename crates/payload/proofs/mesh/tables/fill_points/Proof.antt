@@ -10,8 +10,9 @@ use Rattle.payload.specs.Mesh.{Submesh}
 use Rattle.payload.specs.MeshRead.{many, readSubmesh}
 use Rattle.payload.specs.Internal.{submeshesRead}
 use Rattle.payload.specs.Tables.{allPoints}
-use Rattle.payload.proofs.DrawLaws.{SubmeshTurn, SubmeshesLeft, submeshes-left, left-turn, left-room, left-on, submeshes-end}
-use Rattle.payload.proofs.TableLaws.{points-none, points-turn, points-split, was-read}
+use Rattle.payload.proofs.StepLaws.{was-read}
+use Rattle.payload.proofs.TurnLaws.{SubmeshTurn, SubmeshesLeft, submeshes-left, left-turn, left-room, left-on, submeshes-end}
+use Rattle.payload.proofs.TableLaws.{points-none, points-turn, points-split}
 use borrow.Author.Needs.{needs}
 use Rattle.payload.proofs.mesh.tables.fill_points.Statement.{statement}
 use Rattle.payload.proofs.mesh.tables.fill_points.Tie as tie

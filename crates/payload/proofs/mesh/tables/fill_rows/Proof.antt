@@ -10,7 +10,7 @@ use Rattle.payload.specs.Mesh.{Submesh}
 use Rattle.payload.specs.MeshRead.{many, readSubmesh}
 use Rattle.payload.specs.Internal.{submeshesRead}
 use Rattle.payload.specs.Tables.{submeshRows}
-use Rattle.payload.proofs.DrawLaws.{SubmeshTurn, SubmeshesLeft, submeshes-left, left-turn, left-room, left-on, submeshes-end}
+use Rattle.payload.proofs.TurnLaws.{SubmeshTurn, SubmeshesLeft, submeshes-left, left-turn, left-room, left-on, submeshes-end}
 use Rattle.payload.proofs.TableLaws.{rows-none, row-turn}
 use borrow.Author.Needs.{needs}
 use Rattle.payload.proofs.mesh.tables.fill_rows.Statement.{statement}
