@@ -23,7 +23,7 @@ pub mod CheckLaws
 pub mod MeasureLaws
 pub mod TurnLaws
 pub mod DrawLaws
-pub mod StockLaws
+pub mod ExpandedLaws
 pub mod RecordLaws
 pub mod TableLaws
 pub mod SettledLaws

@@ -173,14 +173,14 @@ unfoldable pub wordsFrom : (ℕ → ℕ) → ℕ → ℕ → List ℕ
 wordsFrom word k zero = []
 wordsFrom word k (suc n) = word k ∷ wordsFrom word (k + 1) n
 
--- `words` has the words of the n coordinates from `base` on, from place `stock` on
-pub record Stocked (s numbers : List ℕ) (base n : ℕ) (words : List ℕ) (stock : ℕ) : Type 0 where
-  pub there : stock + n ≤ length words
-  pub same : (i : ℕ) → i < n → wordIn words (stock + i) ≡ wordAt s numbers (base + i)
+-- `words` has the words of the n coordinates from `base` on, from place `expanded` on
+pub record Expanded (s numbers : List ℕ) (base n : ℕ) (words : List ℕ) (expanded : ℕ) : Type 0 where
+  pub there : expanded + n ≤ length words
+  pub same : (i : ℕ) → i < n → wordIn words (expanded + i) ≡ wordAt s numbers (base + i)
 
--- the stock is there as long as nothing was stored at it or after it
-abbrev pub StockedFrom : ℕ → List ℕ → List ℕ → ℕ → ℕ → List ℕ → ℕ → Type 0
-StockedFrom off s numbers base n words stock = off < stock → Stocked s numbers base n words stock
+-- they are there as long as nothing was stored at their place or after it
+abbrev pub ExpandedFrom : ℕ → List ℕ → List ℕ → ℕ → ℕ → List ℕ → ℕ → Type 0
+ExpandedFrom off s numbers base n words expanded = off < expanded → Expanded s numbers base n words expanded
 
 -- the submeshes, the mesh of a body, the meshes of a box, and those from a byte on that were read; none where they were refused
 abbrev pub submeshesRead : Found (List Submesh) → List Submesh

@@ -1,7 +1,7 @@
 // The filling pass over a mesh list that was measured: nothing is tested again, and nothing can fail. Vertices' coordinate numbers go to
 // `numbers` first; points read them back from there, and their words from the payload, so that no memory is needed beside the buffers.
-// A mesh with many points for its vertices has all its vertices' words stocked first where its last points will go; a point before the
-// stock is then one copy, not ten reads far apart.
+// A mesh with many points for its vertices has its vertices expanded first, the five words of each, where its last points will go; a point
+// before them is then one copy, not ten reads far apart.
 use super::CoordinateNumber;
 use super::MESH;
 use super::VertexNumber;
@@ -26,7 +26,7 @@ ghost use Rattle.payload.specs.Payload.{limited};
 ghost use Rattle.payload.specs.Run.{readRun, one};
 ghost use Rattle.payload.specs.MeshRead.{many, readSubmesh, readMesh, readMeshes};
 ghost use Rattle.payload.specs.MeshDrawing.{pointWords, runWords, submeshWords, submeshRecords, pointCount, recordsFrom, drawnNumbers, drawnFloats, drawnRecords};
-ghost use Rattle.payload.specs.Internal.{WasRead, runNumbers, poolWord, wordAt, wordIn, wordsFrom, Pooled, StockedFrom, submeshesRead, meshRead, boxMeshes, boxRead, meshesFrom, FillRoom, afterMeshes, recordWords, RecordRoom, afterRecords};
+ghost use Rattle.payload.specs.Internal.{WasRead, runNumbers, poolWord, wordAt, wordIn, wordsFrom, Pooled, ExpandedFrom, submeshesRead, meshRead, boxMeshes, boxRead, meshesFrom, FillRoom, afterMeshes, recordWords, RecordRoom, afterRecords};
 ghost use Rattle.payload.specs.Fill.{front};
 ghost use Rattle.payload.specs.Meshes.{drawnInto, meshesSays, meshesAnswer, recordsSays, recordsAnswer};
 
@@ -187,24 +187,24 @@ fn copy_point(words: &mut [u32], from: usize, off: usize)
     words[off + 4] = e;
 }
 
-// Copies the words of three vertices, which stand in words from stock on, to a place before all vertices' words.
+// Copies the words of three vertices, which are expanded from that place on, to a place before all of them.
 fn copy_three(
     words: &mut [u32],
-    stock: usize,
+    expanded: usize,
     a: VertexNumber,
     b: VertexNumber,
     c: VertexNumber,
     off: usize,
 )
-    requires { ⌜ (off + 15 ≤ stock) × (stock + 5 * a .0 + 5 ≤ length (now words)) × (stock + 5 * b .0 + 5 ≤ length (now words)) × (stock + 5 * c .0 + 5 ≤ length (now words)) ⌝ }
-    ensures { λ _. ⌜ now (words .exit) ≡ sets (now (words .entry)) off (runWords (wordIn (now (words .entry))) stock (a .0 ∷ b .0 ∷ c .0 ∷ [])) ⌝ }
+    requires { ⌜ (off + 15 ≤ expanded) × (expanded + 5 * a .0 + 5 ≤ length (now words)) × (expanded + 5 * b .0 + 5 ≤ length (now words)) × (expanded + 5 * c .0 + 5 ≤ length (now words)) ⌝ }
+    ensures { λ _. ⌜ now (words .exit) ≡ sets (now (words .entry)) off (runWords (wordIn (now (words .entry))) expanded (a .0 ∷ b .0 ∷ c .0 ∷ [])) ⌝ }
 {
-    copy_point(words, stock + 5 * (a.0 as usize), off);
-    copy_point(words, stock + 5 * (b.0 as usize), off + 5);
-    copy_point(words, stock + 5 * (c.0 as usize), off + 10);
+    copy_point(words, expanded + 5 * (a.0 as usize), off);
+    copy_point(words, expanded + 5 * (b.0 as usize), off + 5);
+    copy_point(words, expanded + 5 * (c.0 as usize), off + 10);
 }
 
-// Stores the words of a run of points that is known to be read whole: before the stock by copies from it, then point by point.
+// Stores the words of a run of points that is known to be read whole: before the expanded vertices by copies of them, then point by point.
 fn copy_run(
     s: &[u8],
     p: usize,
@@ -215,10 +215,10 @@ fn copy_run(
     base: usize,
     words: &mut [u32],
     off: usize,
-    stock: usize,
+    expanded: usize,
 )
     requires { ⌜ (length (now s) ≤ 67108864) × (w ≤ 17) × (m ≤ 65536) × (64 ≤ p) × (off + 5 * count ≤ length (now words)) × Pooled (now s) (now numbers) base (5 * m) ⌝ }
-    requires { ⌜ WasRead (readRun (now s) w m count p one) × StockedFrom off (now s) (now numbers) base (5 * m) (now words) stock ⌝ }
+    requires { ⌜ WasRead (readRun (now s) w m count p one) × ExpandedFrom off (now s) (now numbers) base (5 * m) (now words) expanded ⌝ }
     ensures { λ _. ⌜ now (words .exit) ≡ sets (now (words .entry)) off (runWords (wordAt (now (s .entry)) (now (numbers .entry))) base (runNumbers (readRun (now (s .entry)) w m count p one))) ⌝ }
 {
     let mut bit = p;
@@ -226,7 +226,7 @@ fn copy_run(
     let mut left = count;
     let mut o = off;
     while 3 <= left {
-        if stock < o + 15 {
+        if expanded < o + 15 {
             draw_run(
                 s,
                 bit,
@@ -247,7 +247,7 @@ fn copy_run(
         last = bits::stepped(b as u32, f.c) as u16;
         copy_three(
             words,
-            stock,
+            expanded,
             VertexNumber(a),
             VertexNumber(b),
             VertexNumber(last),
@@ -271,7 +271,7 @@ fn copy_run(
     );
 }
 
-// Stores the words of some submeshes that are known to be read whole, and returns the place after them. The stock is at 0 where there is none.
+// Stores the words of some submeshes that are known to be read whole, and returns the place after them. `expanded` is 0 where the vertices are not.
 fn draw_submeshes(
     s: &[u8],
     p: usize,
@@ -281,10 +281,10 @@ fn draw_submeshes(
     base: usize,
     words: &mut [u32],
     off: usize,
-    stock: usize,
+    expanded: usize,
 ) -> usize
     requires { ⌜ (length (now s) ≤ 67108864) × (m ≤ 65536) × (64 ≤ p) × (off + 5 * pointCount (submeshesRead (many (readSubmesh (now s) (widthOf m) m) count p)) ≤ length (now words)) × Pooled (now s) (now numbers) base (5 * m) ⌝ }
-    requires { ⌜ WasRead (many (readSubmesh (now s) (widthOf m) m) count p) × StockedFrom off (now s) (now numbers) base (5 * m) (now words) stock ⌝ }
+    requires { ⌜ WasRead (many (readSubmesh (now s) (widthOf m) m) count p) × ExpandedFrom off (now s) (now numbers) base (5 * m) (now words) expanded ⌝ }
     ensures { λ r. ⌜ r ≡ off + 5 * pointCount (submeshesRead (many (readSubmesh (now (s .entry)) (widthOf m) m) count p)) ⌝ }
     ensures { λ _. ⌜ now (words .exit) ≡ sets (now (words .entry)) off (submeshWords (wordAt (now (s .entry)) (now (numbers .entry))) base (submeshesRead (many (readSubmesh (now (s .entry)) (widthOf m) m) count p))) ⌝ }
 {
@@ -294,7 +294,7 @@ fn draw_submeshes(
     let mut o = off;
     while 0 < left {
         let n = one_field(s, bit + 16, 32);
-        copy_run(s, bit + 48, w, m, n, numbers, base, words, o, stock);
+        copy_run(s, bit + 48, w, m, n, numbers, base, words, o, expanded);
         o += 5 * (n as usize);
         bit += 48 + (n as usize) * w;
         left -= 1;
@@ -303,7 +303,14 @@ fn draw_submeshes(
 }
 
 // Stores the words of count coordinates, whose numbers stand in numbers from base on.
-fn fill_stock(s: &[u8], numbers: &[u16], base: usize, count: usize, words: &mut [u32], at: usize)
+fn expand_vertices(
+    s: &[u8],
+    numbers: &[u16],
+    base: usize,
+    count: usize,
+    words: &mut [u32],
+    at: usize,
+)
     requires { ⌜ (length (now s) ≤ 67108864) × (at + count ≤ length (now words)) × Pooled (now s) (now numbers) base count ⌝ }
     ensures { λ _. ⌜ now (words .exit) ≡ sets (now (words .entry)) at (wordsFrom (wordAt (now (s .entry)) (now (numbers .entry))) base count) ⌝ }
 {
@@ -337,9 +344,9 @@ fn count_points(s: &[u8], p: usize, m: u32, count: u32) -> usize
     points
 }
 
-// Stores the words of all submeshes of a mesh, which are known to be read whole, and returns the place after them. There is a stock where the
+// Stores the words of all submeshes of a mesh, which are known to be read whole, and returns the place after them. The vertices are expanded where the
 // points are three for each vertex or more: with fewer it costs more than it saves, and with few vertices the counting does.
-fn draw_stocked(
+fn draw_expanded(
     s: &[u8],
     p: usize,
     m: u32,
@@ -362,9 +369,9 @@ fn draw_stocked(
     if points < 3 * vertices {
         return draw_submeshes(s, p, m, count, numbers, base, words, off, 0);
     }
-    let stock = off + 5 * (points - vertices);
-    fill_stock(s, numbers, base, 5 * vertices, words, stock);
-    draw_submeshes(s, p, m, count, numbers, base, words, off, stock)
+    let expanded = off + 5 * (points - vertices);
+    expand_vertices(s, numbers, base, 5 * vertices, words, expanded);
+    draw_submeshes(s, p, m, count, numbers, base, words, off, expanded)
 }
 
 // Where the next mesh's coordinate numbers and words go.
@@ -393,7 +400,7 @@ fn draw_mesh(s: &[u8], numbers: &mut [u16], words: &mut [u32], to: Place) -> Pla
         numbers,
         base,
     );
-    let end = draw_stocked(s, h.first, m, h.submeshes, &numbers[..], base, words, off);
+    let end = draw_expanded(s, h.first, m, h.submeshes, &numbers[..], base, words, off);
     Place {
         base: base + 5 * (m as usize),
         off: end,

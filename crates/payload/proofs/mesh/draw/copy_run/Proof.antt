@@ -1,4 +1,4 @@
--- `mesh::draw::copy_run` meets its contract. The invariant: storing the words of the points that are left gives the same as storing all at first, and the stock is there
+-- `mesh::draw::copy_run` meets its contract. The invariant: storing the words of the points that are left gives the same as storing all at first, and the expanded vertices are there
 -- until something is stored at it. Assumes nothing.
 use mathlib.Core.Path.{refl, sym, _∙_}
 use mathlib.Core.List.{[], _∷_}
@@ -8,21 +8,21 @@ use lib.Seq.{sets}
 use denote.Ref.{now}
 use Rattle.payload.specs.Run.{readRun}
 use Rattle.payload.specs.MeshDrawing.{runWords}
-use Rattle.payload.specs.Internal.{runNumbers, wordAt, Stocked, StockedFrom}
+use Rattle.payload.specs.Internal.{runNumbers, wordAt, Expanded, ExpandedFrom}
 use Rattle.payload.proofs.StepLaws.{Turn, Got3, got, got3, stepped-at, reached}
 use Rattle.payload.proofs.DrawLaws.{RunLeft, three-first}
-use Rattle.payload.proofs.StockLaws.{three-stocked, stocked-after-run}
+use Rattle.payload.proofs.ExpandedLaws.{three-expanded, expanded-after-run}
 use borrow.Author.Needs.{needs}
 use Rattle.payload.proofs.mesh.draw.copy_run.Statement.{statement}
 use Rattle.payload.proofs.mesh.draw.copy_run.Tie as tie
 
 abbrev Inv-loop : tie.InvT-loop
-Inv-loop s p w m count numbers base words₀ off stock bit₀ last₀ left₀ o₀ words bit last left o =
+Inv-loop s p w m count numbers base words₀ off expanded bit₀ last₀ left₀ o₀ words bit last left o =
     RunLeft s w m numbers base words₀ (sets words₀ off (runWords (wordAt s numbers) base (runNumbers (readRun s w m count p (last₀ ∷ []))))) words bit last left o
-    × StockedFrom o s numbers base (5 * m) words stock
+    × ExpandedFrom o s numbers base (5 * m) words expanded
 
 abbrev μ-loop : tie.MeasureT-loop
-μ-loop s p w m count numbers base words₀ off stock bit₀ last₀ left₀ o₀ words bit last left o = left
+μ-loop s p w m count numbers base words₀ off expanded bit₀ last₀ left₀ o₀ words bit last left o = left
 
 loop-holds : tie.Need-loop-holds Inv-loop μ-loop
 loop-holds c =
@@ -63,11 +63,11 @@ gets n =
     (stepped-at (n .before .before .stepped .result) _ _ _ (f .1) (n .before .stepped2 .ensures))
     (stepped-at (n .before .stepped2 .result) _ _ _ (f .2) (n .stepped3 .ensures))
 
--- the three points go before the stock, so that it is there
+-- the three points go before the expanded vertices, which stay
 holds : (n : tie.After-stepped3 Inv-loop μ-loop)
     → let a = n .before .before .before .before .before .before .before .before .before .before .args in
     let l = n .before .before .before .before .before .before .loop in
-    (l .o + 15 ≤ a .stock) × Stocked (now (a .s)) (now (a .numbers)) (a .base) (5 * a .m) (l .words) (a .stock)
+    (l .o + 15 ≤ a .expanded) × Expanded (now (a .s)) (now (a .numbers)) (a .base) (5 * a .m) (l .words) (a .expanded)
 holds n =
     let e = n .before .before .before .before in
     (e .if1 .left, e .before .before .loop .inv .1 (omega (arith, e .if1 .left)))
@@ -157,7 +157,7 @@ loop-again c =
     let y = n .before .stepped2 .result in
     let z = n .stepped3 .result in
     let f = wordAt (now (a .s)) (now (a .numbers)) in
-    let is = three-stocked (h .1) x y z (l .o) _ (g .below .0) (g .below .1) (g .below .2) (d .copy-three .ensures) in (
+    let is = three-expanded (h .1) x y z (l .o) _ (g .below .0) (g .below .1) (g .below .2) (d .copy-three .ensures) in (
       record {
         same = l .inv .0 .same ∙ three-first f (a .base) x y z _ _ (l .words) (l .o) (g .is) ∙ rw is;
         read = g .rest;
@@ -166,7 +166,7 @@ loop-again c =
         small = omega (arith, g .below, e .pre .0 .2);
         low = omega (arith, l .inv .0 .low);
       },
-      stocked-after-run f (a .base) (l .words) _ (l .o) 3 (x ∷ y ∷ z ∷ []) is refl (l .inv .1),
+      expanded-after-run f (a .base) (l .words) _ (l .o) 3 (x ∷ y ∷ z ∷ []) is refl (l .inv .1),
     )
 
 draw-run-requires-2 : tie.Need-draw-run-requires-2 Inv-loop μ-loop

@@ -1,6 +1,6 @@
 -- `mesh::draw::copy_three` meets its contract: three copies, one after the other, and none reaches what the next ones read. Assumes nothing.
 use denote.Ref.{now}
-use Rattle.payload.proofs.StockLaws.{three-copied}
+use Rattle.payload.proofs.ExpandedLaws.{three-copied}
 use borrow.Author.Needs.{needs}
 use Rattle.payload.proofs.mesh.draw.copy_three.Statement.{statement}
 use Rattle.payload.proofs.mesh.draw.copy_three.Tie as tie
@@ -56,7 +56,7 @@ returns c =
     let y = c .before .before .before .before .before .before .before in
     let z = c .before .before in
     let a = c .before .before .before .before .before .before .before .before .before .before .before .before .before .before .before .before in
-    three-copied (now (a .args .words)) _ _ _ (a .args .stock) (a .args .off) (a .args .a .0) (a .args .b .0) (a .args .c .0) (a .pre .0) (x .copy-point .ensures) (y .copy-point2 .ensures) (z .copy-point3 .ensures)
+    three-copied (now (a .args .words)) _ _ _ (a .args .expanded) (a .args .off) (a .args .a .0) (a .args .b .0) (a .args .c .0) (a .pre .0) (x .copy-point .ensures) (y .copy-point2 .ensures) (z .copy-point3 .ensures)
 
 pub copy-three-spec : {M : Type 1} → statement M
 copy-three-spec =

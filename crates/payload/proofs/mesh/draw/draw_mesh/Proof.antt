@@ -31,8 +31,8 @@ fill-vertices-requires c κs =
     let r = mesh-room K (a .args .to) (length (now (a .args .numbers))) (length (now (a .args .words))) (a .pre .2) in
     ((a .pre .0, omega (arith, K .narrow), omega (arith, K .n-most), omega arith, r .0), K .run)
 
-draw-stocked-requires : tie.Need-draw-stocked-requires
-draw-stocked-requires c κs =
+draw-expanded-requires : tie.Need-draw-expanded-requires
+draw-expanded-requires c κs =
     let a = c .before .before .before .before .before .before .before .before .before .before .before in
     let K = known (c .before .before .before .before .before .before .before) in
     let r = mesh-room K (a .args .to) (length (now (a .args .numbers))) (length (now (a .args .words))) (a .pre .2) in
@@ -63,7 +63,7 @@ returns c =
     let K = known (c .before .before .before .before .before .before .before .before .before .before) in
     let r = mesh-room K (a .args .to) (length (now (a .args .numbers))) (length (now (a .args .words))) (a .pre .2) in
     let f = c .before .before .before .before .before .before .before .fill-vertices .ensures in
-    let d = c .before .before .draw-stocked in
+    let d = c .before .before .draw-expanded in
     (mesh-placed K (a .args .to) (d .result) (d .ensures .0), (mesh-stored K _ _ _ f, mesh-drawn K _ _ _ f (r .0) _ _ _ (d .ensures .1)))
 
 pub draw-mesh-spec : {M : Type 1} → statement M
@@ -75,7 +75,7 @@ draw-mesh-spec =
     mul-fill-vertices
     add-fill-vertices
     fill-vertices-requires
-    draw-stocked-requires
+    draw-expanded-requires
     cast-t11
     mul-t13
     add-t12

@@ -10,29 +10,29 @@ use Rattle.bits.specs.Number.{widthOf}
 use Rattle.payload.specs.Mesh.{Submesh}
 use Rattle.payload.specs.MeshRead.{many, readSubmesh}
 use Rattle.payload.specs.MeshDrawing.{submeshWords, pointCount}
-use Rattle.payload.specs.Internal.{wordAt, StockedFrom, submeshesRead}
+use Rattle.payload.specs.Internal.{wordAt, ExpandedFrom, submeshesRead}
 use Rattle.payload.proofs.TurnLaws.{SubmeshTurn, SubmeshesLeft, submeshes-left, left-turn, left-room, left-on, submeshes-end, points-first}
 use Rattle.payload.proofs.DrawLaws.{submesh-drawn, submesh-words-none}
-use Rattle.payload.proofs.StockLaws.{stocked-after-run}
+use Rattle.payload.proofs.ExpandedLaws.{expanded-after-run}
 use borrow.Author.Needs.{needs}
 use Rattle.payload.proofs.mesh.draw.draw_submeshes.Statement.{statement}
 use Rattle.payload.proofs.mesh.draw.draw_submeshes.Tie as tie
 
-pub record Inv (s : List ℕ) (w m : ℕ) (numbers : List ℕ) (base : ℕ) (words₀ all : List ℕ) (end stock : ℕ) (words : List ℕ) (bit left o : ℕ) : Type 0 where
+pub record Inv (s : List ℕ) (w m : ℕ) (numbers : List ℕ) (base : ℕ) (words₀ all : List ℕ) (end expanded : ℕ) (words : List ℕ) (bit left o : ℕ) : Type 0 where
   pub go : SubmeshesLeft s w m left bit
   pub same : all ≡ sets words o (submeshWords (wordAt s numbers) base (submeshesRead (many (readSubmesh s w m) left bit)))
   pub place : end ≡ o + 5 * pointCount (submeshesRead (many (readSubmesh s w m) left bit))
   pub room : o + 5 * pointCount (submeshesRead (many (readSubmesh s w m) left bit)) ≤ length words
   pub long : length words ≡ length words₀
-  pub stocked : StockedFrom o s numbers base (5 * m) words stock
+  pub vertices : ExpandedFrom o s numbers base (5 * m) words expanded
 
 abbrev Inv-loop : tie.InvT-loop
-Inv-loop s p m count numbers base words₀ off stock w bit₀ left₀ o₀ words bit left o =
+Inv-loop s p m count numbers base words₀ off expanded w bit₀ left₀ o₀ words bit left o =
     Inv s w m numbers base words₀ (sets words₀ off (submeshWords (wordAt s numbers) base (submeshesRead (many (readSubmesh s (widthOf m) m) count p))))
-    (off + 5 * pointCount (submeshesRead (many (readSubmesh s (widthOf m) m) count p))) stock words bit left o
+    (off + 5 * pointCount (submeshesRead (many (readSubmesh s (widthOf m) m) count p))) expanded words bit left o
 
 abbrev μ-loop : tie.MeasureT-loop
-μ-loop s p m count numbers base words₀ off stock w bit₀ left₀ o₀ words bit left o = left
+μ-loop s p m count numbers base words₀ off expanded w bit₀ left₀ o₀ words bit left o = left
 
 bit-width-requires : tie.Need-bit-width-requires Inv-loop μ-loop
 bit-width-requires c κs = search needs
@@ -50,7 +50,7 @@ loop-holds c =
       place = rw e;
       room = rw e (a .pre .0 .3);
       long = refl;
-      stocked = a .pre .1 .1;
+      vertices = a .pre .1 .1;
     }
 
 -- the submesh of the turn
@@ -76,7 +76,7 @@ copy-run-requires c κs =
     let a = d .before .before .before .before .before .before .before in
     let l = d .before .before .loop .inv in
     let t = known d in
-    ((a .pre .0 .0, l .go .narrow, l .go .most, omega (arith, l .go .low), fits d, a .pre .0 .4), (rw (t .1 .run) tt, l .stocked))
+    ((a .pre .0 .0, l .go .narrow, l .go .most, omega (arith, l .go .low), fits d, a .pre .0 .4), (rw (t .1 .run) tt, l .vertices))
 
 cast-o : tie.Need-cast-o Inv-loop μ-loop
 cast-o c = search needs
@@ -121,7 +121,7 @@ loop-again c =
       place = l .inv .place ∙ omega (arith, p, t .1 .count);
       room = omega (arith, l .inv .room, p, t .1 .count, d .copy-run .kept .1 .1 .1 .1 .1 .1 .1 .0);
       long = d .copy-run .kept .1 .1 .1 .1 .1 .1 .1 .0 ∙ l .inv .long;
-      stocked = stocked-after-run (wordAt (now (a .s)) (now (a .numbers))) (a .base) (l .words) _ (l .o) (r .one-field .result) _ (d .copy-run .ensures) (rw (t .1 .run) (sym (t .1 .count))) (l .inv .stocked);
+      vertices = expanded-after-run (wordAt (now (a .s)) (now (a .numbers))) (a .base) (l .words) _ (l .o) (r .one-field .result) _ (d .copy-run .ensures) (rw (t .1 .run) (sym (t .1 .count))) (l .inv .vertices);
     }
 
 same-length : tie.Need-same-length Inv-loop μ-loop

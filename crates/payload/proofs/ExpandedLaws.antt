@@ -1,4 +1,4 @@
--- A stock of words that a buffer holds from a place on: how it is made, that stores before it leave it, and that what is stored over it at last hides it. Assumes nothing.
+-- Expanded vertices, whose words a buffer holds from a place on: how they are made, that stores before them leave them, and that what is stored over them at last hides them. Assumes nothing.
 use Prim.Native.Nat.{ℕ, zero, suc, _+_, _-_, _*_, _≤_, _<_}
 use mathlib.Core.Path.{_≡_, refl, sym, ap, ap₂, _∙_}
 use mathlib.Core.List.{List, [], _∷_, _++_}
@@ -6,7 +6,7 @@ use native.Mathlib.Omega.{arith}
 use lib.ListN.{length, take, drop, set, getD}
 use lib.Seq.{sets, sets-eq, length-sets, take-set-le, drop-set-lt, getD-set-other}
 use Rattle.payload.specs.MeshDrawing.{pointWords, runWords}
-use Rattle.payload.specs.Internal.{wordAt, wordIn, wordsFrom, Stocked, StockedFrom}
+use Rattle.payload.specs.Internal.{wordAt, wordIn, wordsFrom, Expanded, ExpandedFrom}
 use Rattle.payload.proofs.FillLaws.{getD-sets}
 use Rattle.payload.proofs.MeasureLaws.{run-floats}
 use Rattle.payload.proofs.DrawLaws.{point-agrees, run-agrees, three-points}
@@ -33,7 +33,7 @@ sets-over d xs vs t o h k l =
     ∙ ap₂ (λ (x y : List ℕ). x ++ vs ++ y) (take-sets xs d t o h) (drop-sets xs d t (o + length vs) k)
     ∙ sym (sets-eq vs d o l)
 
--- ---- the stock
+-- ---- expanded vertices
 
 module _ (f : ℕ → ℕ) where
   pub words-long : (k n : ℕ) → length (wordsFrom f k n) ≡ n
@@ -61,44 +61,44 @@ module _ (f : ℕ → ℕ) where
       let y : o + 1 ≡ suc o = omega arith in
       rw (z, y)
 
-pub stock-made : (s numbers d e : List ℕ) (base n stock : ℕ) → stock + n ≤ length d → e ≡ sets d stock (wordsFrom (wordAt s numbers) base n) → Stocked s numbers base n e stock
-stock-made s numbers d e base n stock h k =
+pub expanded-made : (s numbers d e : List ℕ) (base n expanded : ℕ) → expanded + n ≤ length d → e ≡ sets d expanded (wordsFrom (wordAt s numbers) base n) → Expanded s numbers base n e expanded
+expanded-made s numbers d e base n expanded h k =
     let f = wordAt s numbers in
     let w = words-long f base n in
     rw k
     (record {
-      there = omega (arith, length-sets d stock (wordsFrom f base n));
-      same = λ i l. getD-sets d stock (wordsFrom f base n) i (omega arith) (omega arith) ∙ words-get f base n i l;
+      there = omega (arith, length-sets d expanded (wordsFrom f base n));
+      same = λ i l. getD-sets d expanded (wordsFrom f base n) i (omega arith) (omega arith) ∙ words-get f base n i l;
     })
 
 -- what is stored over all of it hides it
-pub stock-hidden : (f : ℕ → ℕ) (base n : ℕ) (d e r vs : List ℕ) (stock o : ℕ) → o ≤ stock → stock + n ≤ o + length vs → o + length vs ≤ length d
-    → e ≡ sets d stock (wordsFrom f base n) → r ≡ sets e o vs → r ≡ sets d o vs
-stock-hidden f base n d e r vs stock o h k l ee er =
+pub expanded-hidden : (f : ℕ → ℕ) (base n : ℕ) (d e r vs : List ℕ) (expanded o : ℕ) → o ≤ expanded → expanded + n ≤ o + length vs → o + length vs ≤ length d
+    → e ≡ sets d expanded (wordsFrom f base n) → r ≡ sets e o vs → r ≡ sets d o vs
+expanded-hidden f base n d e r vs expanded o h k l ee er =
     let w = words-long f base n in
-    er ∙ ap (λ (x : List ℕ). sets x o vs) ee ∙ sets-over d (wordsFrom f base n) vs stock o h (omega arith) l
+    er ∙ ap (λ (x : List ℕ). sets x o vs) ee ∙ sets-over d (wordsFrom f base n) vs expanded o h (omega arith) l
 
 -- stores before it leave it
-pub stock-kept : {s numbers : List ℕ} {base n stock : ℕ} {d : List ℕ} (vs e : List ℕ) (o : ℕ) → e ≡ sets d o vs → o + length vs ≤ stock → Stocked s numbers base n d stock → Stocked s numbers base n e stock
-stock-kept {stock = stock} {d = d} vs e o k h S =
+pub expanded-kept : {s numbers : List ℕ} {base n expanded : ℕ} {d : List ℕ} (vs e : List ℕ) (o : ℕ) → e ≡ sets d o vs → o + length vs ≤ expanded → Expanded s numbers base n d expanded → Expanded s numbers base n e expanded
+expanded-kept {expanded = expanded} {d = d} vs e o k h S =
     rw k
     (record {
       there = omega (arith, length-sets d o vs, S .there);
-      same = λ i l. getD-sets-after vs d o (stock + i) (omega arith) ∙ S .same i l;
+      same = λ i l. getD-sets-after vs d o (expanded + i) (omega arith) ∙ S .same i l;
     })
 
 -- the words of a run of c points were stored, up to place o′
-pub stocked-after-run : {s numbers : List ℕ} {b n stock : ℕ} (f : ℕ → ℕ) (base : ℕ) (d e : List ℕ) (o c : ℕ) (l : List ℕ) → e ≡ sets d o (runWords f base l) → length l ≡ c
-    → StockedFrom o s numbers b n d stock → StockedFrom (o + 5 * c) s numbers b n e stock
-stocked-after-run f base d e o c l k g S h =
+pub expanded-after-run : {s numbers : List ℕ} {b n expanded : ℕ} (f : ℕ → ℕ) (base : ℕ) (d e : List ℕ) (o c : ℕ) (l : List ℕ) → e ≡ sets d o (runWords f base l) → length l ≡ c
+    → ExpandedFrom o s numbers b n d expanded → ExpandedFrom (o + 5 * c) s numbers b n e expanded
+expanded-after-run f base d e o c l k g S h =
     let r = run-floats f base l in
-    stock-kept (runWords f base l) e o k (omega arith) (S (omega arith))
+    expanded-kept (runWords f base l) e o k (omega arith) (S (omega arith))
 
 -- the words of three vertices that were copied from it
-pub three-stocked : {s numbers : List ℕ} {base m stock : ℕ} {d : List ℕ} → Stocked s numbers base (5 * m) d stock → (a b c o : ℕ) (e : List ℕ) → a < m → b < m → c < m
-    → e ≡ sets d o (runWords (wordIn d) stock (a ∷ b ∷ c ∷ [])) → e ≡ sets d o (runWords (wordAt s numbers) base (a ∷ b ∷ c ∷ []))
-three-stocked {s} {numbers} {base} {m} {stock} {d} S a b c o e la lb lc k =
-    k ∙ ap (λ (l : List ℕ). sets d o l) (run-agrees (wordIn d) (wordAt s numbers) stock base m (S .same) (a ∷ b ∷ c ∷ []) below)
+pub three-expanded : {s numbers : List ℕ} {base m expanded : ℕ} {d : List ℕ} → Expanded s numbers base (5 * m) d expanded → (a b c o : ℕ) (e : List ℕ) → a < m → b < m → c < m
+    → e ≡ sets d o (runWords (wordIn d) expanded (a ∷ b ∷ c ∷ [])) → e ≡ sets d o (runWords (wordAt s numbers) base (a ∷ b ∷ c ∷ []))
+three-expanded {s} {numbers} {base} {m} {expanded} {d} S a b c o e la lb lc k =
+    k ∙ ap (λ (l : List ℕ). sets d o l) (run-agrees (wordIn d) (wordAt s numbers) expanded base m (S .same) (a ∷ b ∷ c ∷ []) below)
   where
     below : (i : ℕ) → i < 3 → getD (a ∷ b ∷ c ∷ []) i 0 < m
     below zero h = la
@@ -107,15 +107,15 @@ three-stocked {s} {numbers} {base} {m} {stock} {d} S a b c o e la lb lc k =
     below (suc (suc (suc i))) h = absurd (omega arith)
 
 -- three copies, one after the other, of words after all three places
-pub three-copied : (d x y z : List ℕ) (stock o a b c : ℕ) → o + 15 ≤ stock
-    → x ≡ sets d o (pointWords (wordIn d) (stock + 5 * a)) → y ≡ sets x (o + 5) (pointWords (wordIn x) (stock + 5 * b)) → z ≡ sets y (o + 10) (pointWords (wordIn y) (stock + 5 * c))
-    → z ≡ sets d o (runWords (wordIn d) stock (a ∷ b ∷ c ∷ []))
-three-copied d x y z stock o a b c h ex ey ez =
+pub three-copied : (d x y z : List ℕ) (expanded o a b c : ℕ) → o + 15 ≤ expanded
+    → x ≡ sets d o (pointWords (wordIn d) (expanded + 5 * a)) → y ≡ sets x (o + 5) (pointWords (wordIn x) (expanded + 5 * b)) → z ≡ sets y (o + 10) (pointWords (wordIn y) (expanded + 5 * c))
+    → z ≡ sets d o (runWords (wordIn d) expanded (a ∷ b ∷ c ∷ []))
+three-copied d x y z expanded o a b c h ex ey ez =
     let f = wordIn d in
-    let xs : (k : ℕ) → stock ≤ k → wordIn x k ≡ wordIn d k = λ k l. ap (λ (m : List ℕ). getD m k 0) ex ∙ getD-sets-after (pointWords f (stock + 5 * a)) d o k (omega arith) in
-    let ys : (k : ℕ) → stock ≤ k → wordIn y k ≡ wordIn d k = λ k l. ap (λ (m : List ℕ). getD m k 0) ey ∙ getD-sets-after (pointWords (wordIn x) (stock + 5 * b)) x (o + 5) k (omega arith) ∙ xs k l in
-    let eb : pointWords (wordIn x) (stock + 5 * b) ≡ pointWords f (stock + 5 * b) = point-agrees (wordIn x) f (stock + 5 * b) (stock + 5 * b) (λ k l. xs (stock + 5 * b + k) (omega arith)) in
-    let ec : pointWords (wordIn y) (stock + 5 * c) ≡ pointWords f (stock + 5 * c) = point-agrees (wordIn y) f (stock + 5 * c) (stock + 5 * c) (λ k l. ys (stock + 5 * c + k) (omega arith)) in
+    let xs : (k : ℕ) → expanded ≤ k → wordIn x k ≡ wordIn d k = λ k l. ap (λ (m : List ℕ). getD m k 0) ex ∙ getD-sets-after (pointWords f (expanded + 5 * a)) d o k (omega arith) in
+    let ys : (k : ℕ) → expanded ≤ k → wordIn y k ≡ wordIn d k = λ k l. ap (λ (m : List ℕ). getD m k 0) ey ∙ getD-sets-after (pointWords (wordIn x) (expanded + 5 * b)) x (o + 5) k (omega arith) ∙ xs k l in
+    let eb : pointWords (wordIn x) (expanded + 5 * b) ≡ pointWords f (expanded + 5 * b) = point-agrees (wordIn x) f (expanded + 5 * b) (expanded + 5 * b) (λ k l. xs (expanded + 5 * b + k) (omega arith)) in
+    let ec : pointWords (wordIn y) (expanded + 5 * c) ≡ pointWords f (expanded + 5 * c) = point-agrees (wordIn y) f (expanded + 5 * c) (expanded + 5 * c) (λ k l. ys (expanded + 5 * c + k) (omega arith)) in
     ez
     ∙ ap₂ (λ (m l : List ℕ). sets m (o + 10) l) (ey ∙ ap₂ (λ (m l : List ℕ). sets m (o + 5) l) ex eb) ec
-    ∙ three-points f stock a b c d o
+    ∙ three-points f expanded a b c d o

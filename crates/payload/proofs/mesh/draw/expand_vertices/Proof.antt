@@ -1,4 +1,4 @@
--- `mesh::draw::fill_stock` meets its contract. The invariant: storing the words that are left gives the same as storing all at first. Assumes nothing.
+-- `mesh::draw::expand_vertices` meets its contract. The invariant: storing the words that are left gives the same as storing all at first. Assumes nothing.
 use mathlib.Core.Path.{_≡_, refl, sym, ap, _∙_}
 use mathlib.Core.List.{List}
 use Prim.Native.Nat.{ℕ, _+_, _-_, _≤_}
@@ -7,9 +7,9 @@ use lib.ListN.{length, set, length-set}
 use lib.Seq.{sets}
 use denote.Ref.{now}
 use Rattle.payload.specs.Internal.{wordAt, wordsFrom}
-use Rattle.payload.proofs.StockLaws.{words-first, words-none}
-use Rattle.payload.proofs.mesh.draw.fill_stock.Statement.{statement}
-use Rattle.payload.proofs.mesh.draw.fill_stock.Tie as tie
+use Rattle.payload.proofs.ExpandedLaws.{words-first, words-none}
+use Rattle.payload.proofs.mesh.draw.expand_vertices.Statement.{statement}
+use Rattle.payload.proofs.mesh.draw.expand_vertices.Tie as tie
 
 pub record Inv (f : ℕ → ℕ) (base count : ℕ) (words₀ all words : List ℕ) (k o left : ℕ) : Type 0 where
   pub same : all ≡ sets words o (wordsFrom f k left)
@@ -74,8 +74,8 @@ returns c =
     let l = c .before .loop in
     sym (l .inv .same ∙ ap (sets (l .words) (l .o)) (words-none (wordAt (now (a .s)) (now (a .numbers))) (l .k) (l .left) (omega arith)))
 
-pub fill-stock-spec : {M : Type 1} → statement M
-fill-stock-spec =
+pub expand-vertices-spec : {M : Type 1} → statement M
+expand-vertices-spec =
     tie.close
     (tie.spec
     Inv-loop

@@ -1,4 +1,4 @@
--- `mesh::draw::draw_stocked` meets its contract: the stock lies where the last points go, and they are stored over it. Assumes nothing.
+-- `mesh::draw::draw_expanded` meets its contract: the expanded vertices lie where the last points go, which are stored over them. Assumes nothing.
 use Prim.Native.Nat.{_+_, _-_, _*_, _≤_}
 use native.Mathlib.Omega.{arith}
 use lib.ListN.{length}
@@ -8,10 +8,10 @@ use Rattle.payload.specs.MeshRead.{many, readSubmesh}
 use Rattle.payload.specs.MeshDrawing.{submeshWords}
 use Rattle.payload.specs.Internal.{wordAt, submeshesRead}
 use Rattle.payload.proofs.MeasureLaws.{submesh-floats}
-use Rattle.payload.proofs.StockLaws.{stock-made, stock-hidden}
+use Rattle.payload.proofs.ExpandedLaws.{expanded-made, expanded-hidden}
 use borrow.Author.Needs.{needs}
-use Rattle.payload.proofs.mesh.draw.draw_stocked.Statement.{statement}
-use Rattle.payload.proofs.mesh.draw.draw_stocked.Tie as tie
+use Rattle.payload.proofs.mesh.draw.draw_expanded.Statement.{statement}
+use Rattle.payload.proofs.mesh.draw.draw_expanded.Tie as tie
 
 draw-submeshes-requires : tie.Need-draw-submeshes-requires
 draw-submeshes-requires c κs =
@@ -41,30 +41,30 @@ same-length-2 c = search needs
 returns-2 : tie.Need-returns-2
 returns-2 c = search needs
 
-sub-stock : tie.Need-sub-stock
-sub-stock c = search needs
+sub-expanded : tie.Need-sub-expanded
+sub-expanded c = search needs
 
-mul-stock : tie.Need-mul-stock
-mul-stock c = search needs
+mul-expanded : tie.Need-mul-expanded
+mul-expanded c = search needs
 
-add-stock : tie.Need-add-stock
-add-stock c = search needs
+add-expanded : tie.Need-add-expanded
+add-expanded c = search needs
 
-mul-fill-stock : tie.Need-mul-fill-stock
-mul-fill-stock c = search needs
+mul-expand-vertices : tie.Need-mul-expand-vertices
+mul-expand-vertices c = search needs
 
-fill-stock-requires : tie.Need-fill-stock-requires
-fill-stock-requires c κs = search needs
+expand-vertices-requires : tie.Need-expand-vertices-requires
+expand-vertices-requires c κs = search needs
 
 draw-submeshes-requires-3 : tie.Need-draw-submeshes-requires-3
 draw-submeshes-requires-3 c κs =
     let a = c .before .before .before .before .before .before .before .before .before .before .before in
     let x = a .args in
-    let f = c .before .before .before .fill-stock in
+    let f = c .before .before .before .expand-vertices in
     let points = c .before .before .before .before .before .before .count-points in
     let room : x .off + 5 * (points .result - x .m) + 5 * x .m ≤ length (now (x .words)) = omega (arith, points .ensures) in (
       (a .pre .0 .0, a .pre .0 .1, a .pre .0 .2, omega (arith, f .kept .1 .1 .1 .1 .0), a .pre .0 .4),
-      (a .pre .1, λ h. stock-made (now (x .s)) (now (x .numbers)) (now (x .words)) _ (x .base) (5 * x .m) (x .off + 5 * (points .result - x .m)) room (f .ensures)),
+      (a .pre .1, λ h. expanded-made (now (x .s)) (now (x .numbers)) (now (x .words)) _ (x .base) (5 * x .m) (x .off + 5 * (points .result - x .m)) room (f .ensures)),
     )
 
 same-length-3 : tie.Need-same-length-3
@@ -75,19 +75,19 @@ returns-3 c =
     let a = c .before .before .before .before .before .before .before .before .before .before .before .before .before .before in
     let x = a .args in
     let e = c .before .before .before .before .before .before .before .before in
-    let f = c .before .before .before .before .before .before .fill-stock in
+    let f = c .before .before .before .before .before .before .expand-vertices in
     let points = e .before .count-points in
     let d = c .before .before .draw-submeshes3 in
     let word = wordAt (now (x .s)) (now (x .numbers)) in
     let all = submeshesRead (many (readSubmesh (now (x .s)) (widthOf (x .m)) (x .m)) (x .count) (x .p)) in
     let long = submesh-floats word (x .base) all in
-    let stock = x .off + 5 * (points .result - x .m) in (
+    let expanded = x .off + 5 * (points .result - x .m) in (
       d .ensures .0,
-      stock-hidden word (x .base) (5 * x .m) (now (x .words)) _ _ (submeshWords word (x .base) all) stock (x .off) (omega arith) (omega (arith, points .ensures, e .if2 .left, long)) (omega (arith, a .pre .0 .3, long)) (f .ensures) (d .ensures .1),
+      expanded-hidden word (x .base) (5 * x .m) (now (x .words)) _ _ (submeshWords word (x .base) all) expanded (x .off) (omega arith) (omega (arith, points .ensures, e .if2 .left, long)) (omega (arith, a .pre .0 .3, long)) (f .ensures) (d .ensures .1),
     )
 
-pub draw-stocked-spec : {M : Type 1} → statement M
-draw-stocked-spec =
+pub draw-expanded-spec : {M : Type 1} → statement M
+draw-expanded-spec =
     tie.close
     (tie.spec
     draw-submeshes-requires
@@ -98,11 +98,11 @@ draw-stocked-spec =
     draw-submeshes-requires-2
     same-length-2
     returns-2
-    sub-stock
-    mul-stock
-    add-stock
-    mul-fill-stock
-    fill-stock-requires
+    sub-expanded
+    mul-expanded
+    add-expanded
+    mul-expand-vertices
+    expand-vertices-requires
     draw-submeshes-requires-3
     same-length-3
     returns-3)
