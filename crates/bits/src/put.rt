@@ -1,4 +1,4 @@
-// The leaves of the writers: a word and a field put into a lent buffer.
+// A word, and a field, put into a lent buffer.
 ghost use mathlib.Core.Path.{_≡_};
 ghost use Prim.Native.Nat.{_+_, _-_, _*_, _/_, _%_, _^_, _≤_, _<_};
 ghost use lib.ListN.{length};

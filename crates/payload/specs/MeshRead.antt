@@ -1,4 +1,4 @@
--- Kind 2 as a program: the reading and the bit place after it, or the number of the first field in payload order that breaks a rule.
+-- Kind 2 as a program: the reading, of its parts with the bit place after them, or the number of the rule that the first field in payload order breaks.
 use Prim.Native.Nat.{ℕ, zero, suc, _+_, _*_}
 use mathlib.Core.List.{List, [], _∷_}
 use mathlib.Core.Bool.{cond}

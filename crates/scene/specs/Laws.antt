@@ -1,4 +1,4 @@
--- Demand 3 of the request, sentence by sentence, over the very definitions that the scene call's contract cites.
+-- Demand 3 of the request, its sentences about the scene call one by one, and of demand 1 that a refusal changes no buffer; over the very definitions that the scene call's contract cites.
 use Prim.Native.Nat.{ℕ, _≤_}
 use mathlib.Core.Path.{_≡_}
 use mathlib.Core.List.{List, _++_}

@@ -1,3 +1,5 @@
+//! Random numbers that are the same in every run.
+
 /// xorshift64.
 pub struct Random(u64);
 

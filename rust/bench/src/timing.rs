@@ -1,3 +1,5 @@
+//! Medians of times, the two sides in turn.
+
 use std::hint::black_box;
 use std::time::Instant;
 

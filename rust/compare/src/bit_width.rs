@@ -1,3 +1,5 @@
+//! `bit_width`.
+
 use reference::mesh;
 
 use crate::options::Options;

@@ -1,3 +1,5 @@
+//! The reader and the writer of kind 1.
+
 use reference::mesh::{self, Spherical};
 
 use crate::answer::Answer;

@@ -1,3 +1,5 @@
+//! The counts of vertices and indices.
+
 use std::fmt::Debug;
 
 use reference::pano;

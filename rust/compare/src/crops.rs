@@ -1,3 +1,5 @@
+//! Whether a crop is usable.
+
 use probe_sys::Crop;
 use reference::pano::Bounds;
 

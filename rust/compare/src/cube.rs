@@ -1,3 +1,5 @@
+//! The cube map: its indices, its vertices, and the share of the padding.
+
 use reference::pano::{self, VERTEX_FLOATS};
 
 use crate::answer::Answer;

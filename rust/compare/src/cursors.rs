@@ -1,3 +1,5 @@
+//! The byte cursor.
+
 use reference::mesh::Reader;
 
 use crate::answer::Answer;

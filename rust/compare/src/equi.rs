@@ -1,3 +1,5 @@
+//! The reader and the writer of kind 0.
+
 use reference::mesh;
 use reference::pano::Bounds;
 

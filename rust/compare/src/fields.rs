@@ -1,3 +1,5 @@
+//! The bit cursor and the field read.
+
 use reference::mesh::BitReader;
 
 use crate::answer::Answer;

@@ -1,3 +1,5 @@
+//! The bits of a float.
+
 use crate::options::Options;
 use crate::sweep::float_sweep;
 use crate::tally::Tally;

@@ -1,3 +1,5 @@
+//! Box headers.
+
 use reference::mesh::{self, Reader};
 
 use crate::answer::Answer;

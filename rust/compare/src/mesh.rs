@@ -1,3 +1,5 @@
+//! One mesh body and its four tables.
+
 use std::slice::from_ref;
 
 use reference::mesh;

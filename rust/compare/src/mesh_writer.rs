@@ -1,3 +1,5 @@
+//! The writer of a mesh box.
+
 use reference::mesh;
 use spell::{field_width, Mesh, Tables, FIELDS, ROW};
 

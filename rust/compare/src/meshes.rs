@@ -1,3 +1,5 @@
+//! Mesh lists: drawn, measured, and their records alone.
+
 use reference::mesh;
 use spell::{Part, Spelled, MESH};
 

@@ -1,3 +1,5 @@
+//! A u32 to the nearest f32.
+
 use crate::options::Options;
 use crate::sweep::numbers;
 use crate::tally::Tally;

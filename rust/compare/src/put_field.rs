@@ -1,3 +1,5 @@
+//! A field put into a buffer.
+
 use reference::mesh::BitReader;
 
 use crate::answer::Answer;

@@ -1,3 +1,5 @@
+//! A word put into a buffer.
+
 use reference::mesh::Reader;
 
 use crate::answer::Answer;

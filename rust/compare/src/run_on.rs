@@ -1,3 +1,5 @@
+//! A running number held against its limit.
+
 use reference::mesh;
 
 use crate::options::Options;

@@ -1,3 +1,5 @@
+//! A field of kind 0 as a share of 2^32.
+
 use crate::options::Options;
 use crate::sweep::numbers;
 use crate::tally::Tally;

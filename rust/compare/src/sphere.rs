@@ -1,3 +1,5 @@
+//! The sphere's grid: its indices, with and without a crop, and its texture coordinates.
+
 use std::ops::RangeInclusive;
 
 use probe_sys::Crop;

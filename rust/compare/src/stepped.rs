@@ -1,3 +1,5 @@
+//! A running number's step.
+
 use crate::answer::Answer;
 use crate::options::Options;
 use crate::random::Random;

@@ -1,3 +1,5 @@
+//! A sum of fields, as the benchmark makes it.
+
 use reference::mesh::BitReader;
 
 use crate::answer::Answer;

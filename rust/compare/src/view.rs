@@ -1,3 +1,5 @@
+//! The viewer's small calls.
+
 use reference::pano::{self, AnaglyphPair, Eye, Projection, StereoLayout};
 
 use crate::answer::Answer;

@@ -1,3 +1,5 @@
+//! What a field means.
+
 use reference::mesh;
 
 use crate::options::Options;

@@ -1,12 +1,12 @@
 //! The measuring call and the four counts of a panoramic viewer, from the verified library
 //! `libviewer.a`, on slices and numbers.
 //!
-//! Every call is total: it answers a count, or the one [`Refusal`] that the scope document names.
+//! Every call is total: it answers a count, or the one [`Refusal`] that document 01 names.
 //!
 //! ```
 //! use hoodsorrel_viewer::{index_count, measure_meshes, vertex_count, Refusal};
 //!
-//! // The smallest mesh list: two coordinates, three vertices, one submesh of three points.
+//! // A small mesh list: two coordinates, three vertices, one submesh of three points.
 //! let payload = [
 //!     0, 0, 0, 0x28, b'm', b'e', b's', b'h', // size and type of the box
 //!     0, 0, 0, 2, 0, 0, 0, 0, 0x3F, 0x80, 0, 0, // two coordinates, 0.0 and 1.0
