@@ -10,7 +10,7 @@ use borrow.Author.Tests.{le-leb, lt-leb, lt-ltb, le-ltb}
 use Rattle.replay.specs.declared.text.Hex.{Hex}
 use Rattle.replay.specs.declared.text.Hex.the-variants as H
 use Rattle.replay.specs.declared.text.Number.the-variants as N
-use Rattle.replay.specs.Text.{digitOf, hexFrom, hexOf, tokenEnd, numbered, numberAt, pairOf, pairsOf, byteCount}
+use Rattle.replay.specs.Text.{digitOf, hexFrom, hexOf, tokenEnd, withNext, tokenAt, pairOf, pairsOf, byteCount}
 use Rattle.replay.specs.declared.text.Bytes.{Bytes}
 use Rattle.replay.specs.declared.text.Bytes.the-variants as B
 
@@ -114,21 +114,21 @@ module _ (s out : List ℕ) (i : ℕ) (e : length s ≡ 2 * length out) (w : tak
 
 -- the number at a place of the line, whose token ends at a place
 module _ (line : List ℕ) (at : ℕ) where
-  pub no-token : length line ≤ at → N.Bad ≡ numberAt line at
-  unfolding numberAt
+  pub no-token : length line ≤ at → N.Bad ≡ tokenAt line at
+  unfolding tokenAt
   no-token h = simp (le-ltb at (length line) h)
 
   module _ (end : ℕ) (k : at < length line) (e : end ≡ tokenEnd line at) where
-    pub no-space : length line ≤ end → N.Bad ≡ numberAt line at
-    unfolding numberAt
+    pub no-space : length line ≤ end → N.Bad ≡ tokenAt line at
+    unfolding tokenAt
     no-space h =
         let h' : length line ≤ tokenEnd line at = rw e at h in
         simp (lt-ltb at (length line) k, le-ltb (tokenEnd line at) (length line) h')
 
-    pub number-is : end < length line → (r : Hex) → r ≡ hexOf (take (end - at) (drop at line)) → numbered r (end + 1) ≡ numberAt line at
-    unfolding numberAt
+    pub number-is : end < length line → (r : Hex) → r ≡ hexOf (take (end - at) (drop at line)) → withNext r (end + 1) ≡ tokenAt line at
+    unfolding tokenAt
     number-is h r q =
         let h' : tokenEnd line at < length line = rw e at h in
-        ap (λ (x : Hex). numbered x (end + 1)) q
-        ∙ ap (λ (n : ℕ). numbered (hexOf (take (n - at) (drop at line))) (n + 1)) e
+        ap (λ (x : Hex). withNext x (end + 1)) q
+        ∙ ap (λ (n : ℕ). withNext (hexOf (take (n - at) (drop at line))) (n + 1)) e
         ∙ sym (simp (lt-ltb at (length line) k, lt-ltb (tokenEnd line at) (length line) h'))

@@ -31,15 +31,15 @@ abbrev pub tokenEnd : List ℕ → ℕ → ℕ
 tokenEnd line at = at + indexOf 32 (slice at (length line) line)
 
 -- a token's number, with the place after it
-abbrev pub numbered : Hex → ℕ → Number
-numbered (H.Value v) next = N.Value v next
-numbered H.Bad next = N.Bad
+abbrev pub withNext : Hex → ℕ → Number
+withNext (H.Value v) next = N.Value v next
+withNext H.Bad next = N.Bad
 
 -- the number that the token at a place spells, and the place after the space that ends it
-unfoldable pub numberAt : List ℕ → ℕ → Number
-numberAt line at =
+unfoldable pub tokenAt : List ℕ → ℕ → Number
+tokenAt line at =
     cond (ltb at (length line) && ltb (tokenEnd line at) (length line))
-    (numbered (hexOf (take (tokenEnd line at - at) (drop at line))) (tokenEnd line at + 1))
+    (withNext (hexOf (take (tokenEnd line at - at) (drop at line))) (tokenEnd line at + 1))
     N.Bad
 
 -- the byte that two digits spell, and 256 where one is no digit

@@ -8,7 +8,7 @@ use crate::text::number_at;
 ghost use mathlib.Core.Path.{_≡_};
 ghost use Prim.Native.Nat.{_≤_, _<_};
 ghost use lib.ListN.{length};
-ghost use Rattle.replay.specs.Line.{readCall, readLength, verdictCall, judged};
+ghost use Rattle.replay.specs.Line.{readCall, readLength, judgementCall, judged};
 
 // A place of the line, or that an argument cannot be read.
 enum Place {
@@ -23,7 +23,7 @@ enum Reading {
 }
 
 // What a line is, and its call: 0 where it cannot be read.
-pub enum Verdict {
+pub enum Judgement {
     Comment,
     Same(usize),
     Different(usize),
@@ -140,47 +140,47 @@ fn read_line(line: &[u8], args: &mut [u64; 10], data: &mut [u8]) -> Reading
 }
 
 // Whether the outcome of a call is the due one.
-fn compared(call: usize, code: u64, sum: u64, outcome: Outcome) -> Verdict
+fn compared(call: usize, code: u64, sum: u64, outcome: Outcome) -> Judgement
     requires { ⌜ call < 52 ⌝ }
     ensures { λ r. ⌜ r ≡ judged call code sum outcome ⌝ }
-    ensures { λ r. ⌜ verdictCall r < 52 ⌝ }
+    ensures { λ r. ⌜ judgementCall r < 52 ⌝ }
 {
     match outcome {
-        Outcome::Unreadable => Verdict::Different(0),
+        Outcome::Unreadable => Judgement::Different(0),
         Outcome::Answer(made, left) => {
             if made != code {
-                return Verdict::Different(call);
+                return Judgement::Different(call);
             }
             if left != sum {
-                return Verdict::Different(call);
+                return Judgement::Different(call);
             }
-            Verdict::Same(call)
+            Judgement::Same(call)
         }
     }
 }
 
 // Makes the call of a line again.
-fn replayed(line: &[u8]) -> Verdict
-    ensures { λ r. ⌜ verdictCall r < 52 ⌝ }
+fn replayed(line: &[u8]) -> Judgement
+    ensures { λ r. ⌜ judgementCall r < 52 ⌝ }
 {
     let mut args = [0u64; 10];
     let mut data = [0u8; 2048];
     match read_line(line, &mut args, &mut data) {
-        Reading::Bad => Verdict::Different(0),
+        Reading::Bad => Judgement::Different(0),
         Reading::Call(number, n, code, sum) => {
             compared(number, code, sum, call(number, &args, &data[..n]))
         }
     }
 }
 
-pub fn judge(line: &[u8]) -> Verdict
-    ensures { λ r. ⌜ verdictCall r < 52 ⌝ }
+pub fn judge(line: &[u8]) -> Judgement
+    ensures { λ r. ⌜ judgementCall r < 52 ⌝ }
 {
     if line.len() == 0 {
-        return Verdict::Different(0);
+        return Judgement::Different(0);
     }
     if line[0] == b'#' {
-        return Verdict::Comment;
+        return Judgement::Comment;
     }
     replayed(line)
 }

@@ -1,5 +1,5 @@
 // The walk over the list's lines, and the counts.
-use crate::line::Verdict;
+use crate::line::Judgement;
 use crate::line::judge;
 use crate::print::print_counts;
 use crate::print::print_differs;
@@ -19,12 +19,12 @@ fn count(counts: &mut [u64; 52], call: usize)
 // Counts a line, and answers whether it differs.
 fn note(line: &[u8], same: &mut [u64; 52], different: &mut [u64; 52]) -> bool {
     match judge(line) {
-        Verdict::Comment => false,
-        Verdict::Same(call) => {
+        Judgement::Comment => false,
+        Judgement::Same(call) => {
             count(same, call);
             false
         }
-        Verdict::Different(call) => {
+        Judgement::Different(call) => {
             count(different, call);
             true
         }

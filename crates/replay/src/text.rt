@@ -3,7 +3,7 @@ ghost use mathlib.Core.Path.{_≡_};
 ghost use mathlib.Core.Bool.{true};
 ghost use Prim.Native.Nat.{_*_, _≤_};
 ghost use lib.ListN.{length};
-ghost use Rattle.replay.specs.Text.{digitOf, hexOf, numberAt, pairOf, pairsOf, byteCount};
+ghost use Rattle.replay.specs.Text.{digitOf, hexOf, tokenAt, pairOf, pairsOf, byteCount};
 
 // The number that a whole token spells.
 pub enum Hex {
@@ -68,7 +68,7 @@ fn hex_number(s: &[u8]) -> Hex
 
 // The number at a place of the line. No token but the last ends with the line, and the last is never asked for.
 pub fn number_at(line: &[u8], at: usize) -> Number
-    ensures { λ r. ⌜ r ≡ numberAt (now (line .entry)) at ⌝ }
+    ensures { λ r. ⌜ r ≡ tokenAt (now (line .entry)) at ⌝ }
 {
     if line.len() <= at {
         return Number::Bad;
