@@ -2,9 +2,15 @@
 pub mod VerdictLaws
 pub mod FieldLaws
 pub mod ByteLaws
+pub mod ReadLaws
 pub mod NumberLaws
 pub mod BelowLaws
 pub mod HeaderLaws
 pub mod PutLaws
+pub mod SetsLaws
+pub mod RunLaws
+pub mod JudgedLaws
+pub mod SummedLaws
+pub mod ThereLaws
 pub mod Marked
 pub mod Theorems

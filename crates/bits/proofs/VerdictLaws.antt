@@ -1,12 +1,14 @@
 -- What the verdicts of a step behind a test, of `within`, of two steps and of a step's value tell. Assumes nothing.
 use mathlib.Core.Path.{_≡_, refl, sym}
 use mathlib.Core.Logic.{_⊎_, inl, inr}
-use mathlib.Core.Bool.{Bool, true, false, cond}
+use mathlib.Core.List.{List}
+use mathlib.Core.Bool.{Bool, true, false, cond, _&&_}
 use Prim.Native.Nat.{ℕ, _≤_, _<_}
 use native.Mathlib.Omega.{arith}
 use lib.Dec.{leb}
+use lib.ListN.{length}
 use borrow.Author.Tests.{le-leb, lt-leb, leb-true, leb-false}
-use Rattle.bits.specs.Verdict.{Verdict, accepted, needs, declined, within, andThen, mapped}
+use Rattle.bits.specs.Verdict.{Verdict, accepted, needs, declined, within, limited, andThen, mapped}
 
 pub le-or-lt : (m n : ℕ) → (m ≤ n) ⊎ (n < m)
 le-or-lt m n = go (leb m n) refl
@@ -18,6 +20,10 @@ le-or-lt m n = go (leb m n) refl
 -- the equations at hand contradict each other
 pub clash : {X : Type 0} → _≡_ {A = ℕ} 0 1 → X
 clash e = absurd (omega arith)
+
+pub both-true : (a b : Bool) → (a && b) ≡ true → (a ≡ true) × (b ≡ true)
+both-true true b e = (refl, e)
+both-true false b e = clash (cc)
 
 -- ---- a step behind a test
 
@@ -65,6 +71,17 @@ module _ {A : Type 0} (m n : ℕ) (v : A) where
       go : ((leb m n ≡ false) × (k ≡ j)) ⊎ ((leb m n ≡ true) × (accepted v ≡ declined j)) → (n < m) × (k ≡ j)
       go (inl t) = (leb-false m n (t .0), t .1)
       go (inr (t, d)) = clash (cc)
+
+-- ---- bytes within the limit of a payload
+
+module _ {A : Type 0} (s : List ℕ) (v : Verdict A) where
+  pub limited-yes : length s ≤ 67108864 → limited s v ≡ v
+  unfolding limited
+  limited-yes h = simp (le-leb (length s) 67108864 h)
+
+  pub limited-no : 67108864 < length s → limited s v ≡ declined 2
+  unfolding limited
+  limited-no h = simp (lt-leb (length s) 67108864 h)
 
 -- ---- one step after another
 

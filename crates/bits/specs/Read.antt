@@ -1,9 +1,9 @@
 -- What reading at a place gives: the value and the place after it, or 3, too few bytes or bits. And what each answer says.
-use Prim.Native.Nat.{ℕ, _+_, _-_, _*_}
+use Prim.Native.Nat.{ℕ, zero, suc, _+_, _-_, _*_}
 use mathlib.Core.List.{List}
 use lib.ListN.{length}
-use Rattle.bits.specs.Verdict.{Verdict, accepted, declined, within}
-use Rattle.bits.specs.Field.{field, room}
+use Rattle.bits.specs.Verdict.{Verdict, accepted, declined, within, andThen}
+use Rattle.bits.specs.Field.{bitAt, field, room}
 use Rattle.bits.specs.declared.bytes.ByteRead.{ByteRead}
 use Rattle.bits.specs.declared.bytes.ByteRead.the-variants as B
 use Rattle.bits.specs.declared.bytes.WordRead.{WordRead}
@@ -12,6 +12,8 @@ use Rattle.bits.specs.declared.bytes.Seek.{Seek}
 use Rattle.bits.specs.declared.bytes.Seek.the-variants as S
 use Rattle.bits.specs.declared.fields.FieldRead.{FieldRead}
 use Rattle.bits.specs.declared.fields.FieldRead.the-variants as F
+use Rattle.bits.specs.declared.fields.TwoRead.{TwoRead}
+use Rattle.bits.specs.declared.fields.TwoRead.the-variants as T
 
 -- the number of n bytes, big end first, from byte p on
 abbrev pub numberAt : ℕ → List ℕ → ℕ → Verdict (ℕ × ℕ)
@@ -20,6 +22,18 @@ numberAt n s p = within (p + n) (length s) (field s (8 * p) (8 * n), p + n) (dec
 -- the field of w bits from bit p on; a field of no bits is always complete
 abbrev pub fieldAt : List ℕ → ℕ → ℕ → Verdict (ℕ × ℕ)
 fieldAt s p w = within w (room s - p) (field s p w, p + w) (declined 3)
+
+-- two neighbouring fields of w bits from bit p on, and the place after both; 3 where they are not both complete
+abbrev pub twoAt : List ℕ → ℕ → ℕ → Verdict (ℕ × ℕ × ℕ)
+twoAt s p w = within (2 * w) (room s - p) (field s p w, field s (p + w) w, p + 2 * w) (declined 3)
+
+-- One bit more: a number read so far and the place after it. And w bits from bit p on, one after the other.
+unfoldable pub bitOn : List ℕ → ℕ × ℕ → Verdict (ℕ × ℕ)
+bitOn s v = within 1 (room s - v .1) (v .0 * 2 + bitAt s (v .1), v .1 + 1) (declined 3)
+
+unfoldable pub bitByBit : List ℕ → ℕ → ℕ → Verdict (ℕ × ℕ)
+bitByBit s p zero = accepted (0, p)
+bitByBit s p (suc w) = andThen (bitByBit s p w) (bitOn s)
 
 -- byte place p, which may be the end
 abbrev pub placeIn : List ℕ → ℕ → Verdict ℕ
@@ -36,6 +50,10 @@ wordSays W.Short = declined 3
 abbrev pub fieldSays : FieldRead → Verdict (ℕ × ℕ)
 fieldSays (F.Value v c) = accepted (v, c .bit)
 fieldSays F.Short = declined 3
+
+abbrev pub twoSays : TwoRead → Verdict (ℕ × ℕ × ℕ)
+twoSays (T.Values a b c) = accepted (a, b, c .bit)
+twoSays T.Short = declined 3
 
 abbrev pub seekSays : Seek → Verdict ℕ
 seekSays (S.To c) = accepted (c .at)

@@ -3,6 +3,7 @@ use Prim.Native.Nat.{ℕ}
 use mathlib.Core.List.{List}
 use mathlib.Core.Bool.{cond}
 use lib.Dec.{leb}
+use lib.ListN.{length}
 
 pub data Verdict (A : Type 0) : Type 0 where
   accepted : A → Verdict A
@@ -12,6 +13,10 @@ pub data Verdict (A : Type 0) : Type 0 where
 -- the value v where m is at most n, and the other verdict where it is not
 unfoldable pub within : {A : Type 0} → ℕ → ℕ → A → Verdict A → Verdict A
 within m n v other = cond (leb m n) (accepted v) other
+
+-- 2 where a payload, or a body, is longer than 67,108,864 bytes
+unfoldable pub limited : {A : Type 0} → List ℕ → Verdict A → Verdict A
+limited s v = cond (leb (length s) 67108864) v (declined 2)
 
 -- one step after another: the first refusal stands
 abbrev pub andThen : {A B : Type 0} → Verdict A → (A → Verdict B) → Verdict B

@@ -1,10 +1,19 @@
 // Bit fields, high bit first, read at a cursor by value beside the slice: the Rust's `BitReader`.
+mod runs;
+
 use super::bytes::word_of;
+pub use runs::Run;
+pub use runs::RunCheck;
+pub use runs::check_fives;
+pub use runs::check_run;
+pub use runs::fill_fives;
+pub use runs::fill_run;
 ghost use mathlib.Core.Path.{_≡_};
-ghost use Prim.Native.Nat.{_+_, _-_, _*_, _/_, _^_, _≤_, _<_, min};
+ghost use Prim.Native.Nat.{_+_, _-_, _*_, _/_, _%_, _^_, _≤_, _<_};
 ghost use lib.ListN.{length};
-ghost use Rattle.bits.specs.Field.{field, capped, room};
-ghost use Rattle.bits.specs.Read.{fieldAt, fieldSays};
+ghost use Rattle.bits.specs.Field.{field, capped, room, heldBits};
+ghost use Rattle.bits.specs.Read.{fieldAt, fieldSays, twoAt, twoSays};
+ghost use Rattle.bits.specs.Inside.{Inside};
 
 // A place in a slice, counted in bits from the high bit of byte 0. It may lie past the end.
 pub struct BitCursor {
@@ -14,6 +23,12 @@ pub struct BitCursor {
 // A field and the place after it, or too few bits.
 pub enum FieldRead {
     Value(u32, BitCursor),
+    Short,
+}
+
+// Two neighbouring fields and the place after both, or too few bits for both.
+pub enum TwoRead {
+    Values(u32, u32, BitCursor),
     Short,
 }
 
@@ -67,15 +82,96 @@ fn first_bytes(s: &[u8], n: usize) -> u64
     x
 }
 
-// The bytes before byte end as a number: the last five of them, which hold any field that ends there, or all where there are fewer.
-fn window(s: &[u8], end: usize) -> u64
-    requires { ⌜ end ≤ length (now s) ⌝ }
-    ensures { λ r. ⌜ r ≡ field (now (s .entry)) (8 * (end - 5)) (8 * min end 5) ⌝ }
+// The bits before bit q in the five bytes that end with it: 33 of them or more.
+fn five_before(s: &[u8], q: usize) -> u64
+    requires { ⌜ (33 ≤ q) × (q ≤ 8 * length (now s)) ⌝ }
+    ensures { λ r. ⌜ r ≡ field (now (s .entry)) (q - heldBits q) (heldBits q) ⌝ }
 {
-    if end < 5 {
-        return first_bytes(s, end);
+    let last = q - 1;
+    let end = last / 8 + 1;
+    five_of(s[end - 5], s[end - 4], s[end - 3], s[end - 2], s[end - 1]) >> (7 - last % 8)
+}
+
+// The same, or all of them where fewer than five bytes end with bit q.
+fn bits_before(s: &[u8], q: usize) -> u64
+    requires { ⌜ (1 ≤ q) × (q ≤ 8 * length (now s)) ⌝ }
+    ensures { λ r. ⌜ r ≡ field (now (s .entry)) (q - heldBits q) (heldBits q) ⌝ }
+{
+    if 32 < q {
+        return five_before(s, q);
     }
-    five_of(s[end - 5], s[end - 4], s[end - 3], s[end - 2], s[end - 1])
+    let last = q - 1;
+    first_bytes(s, last / 8 + 1) >> (7 - last % 8)
+}
+
+// The lowest w bits of x.
+fn low_bits(x: u64, w: u32) -> u32
+    requires { ⌜ w ≤ 32 ⌝ }
+    ensures { λ r. ⌜ r ≡ x % 2 ^ w ⌝ }
+{
+    (x % (1u64 << w)) as u32
+}
+
+// Two neighbouring fields.
+struct Two {
+    a: u32,
+    b: u32,
+}
+
+// Two neighbouring fields of at most 16 bits, out of the bits before the end of the second.
+fn two_of(x: u64, width: u32) -> Two
+    requires { ⌜ width ≤ 16 ⌝ }
+    ensures { λ r. ⌜ (r .a ≡ x / 2 ^ width % 2 ^ width) × (r .b ≡ x % 2 ^ width) ⌝ }
+{
+    Two {
+        a: low_bits(x >> width, width),
+        b: low_bits(x, width),
+    }
+}
+
+// A field that is known to be there, wherever it stands.
+fn one_known(s: &[u8], bit: usize, width: u32) -> u32
+    requires { ⌜ (length (now s) ≤ 67108864) × (width ≤ 32) × (bit + width ≤ 8 * length (now s)) ⌝ }
+    ensures { λ r. ⌜ r ≡ field (now (s .entry)) bit width ⌝ }
+{
+    let here = BitCursor { bit };
+    match here.read(s, width) {
+        FieldRead::Value(value, _) => value,
+        FieldRead::Short => 0,
+    }
+}
+
+// A field that is known to be there, five bytes or more from the start.
+fn one_inside(s: &[u8], bit: usize, width: u32) -> u32
+    requires { ⌜ Inside (now s) bit width ⌝ }
+    requires { ⌜ width ≤ 32 ⌝ }
+    ensures { λ r. ⌜ r ≡ field (now (s .entry)) bit width ⌝ }
+{
+    low_bits(five_before(s, bit + width as usize), width)
+}
+
+// Two neighbouring fields that are known to be there, out of one window.
+fn two_inside(s: &[u8], bit: usize, width: u32) -> Two
+    requires { ⌜ Inside (now s) bit (2 * width) ⌝ }
+    requires { ⌜ width ≤ 16 ⌝ }
+    ensures { λ r. ⌜ (r .a ≡ field (now (s .entry)) bit width)
+        × (r .b ≡ field (now (s .entry)) (bit + width) width) ⌝ }
+{
+    two_of(five_before(s, bit + 2 * (width as usize)), width)
+}
+
+// Two neighbouring fields, a window for each.
+fn two_windows(s: &[u8], bit: usize, width: u32) -> TwoRead
+    requires { ⌜ (1 ≤ width) × (width ≤ 32) × (2 * width ≤ room (now s) - bit) ⌝ }
+    ensures { λ r. ⌜ twoSays r ≡ twoAt (now (s .entry)) bit width ⌝ }
+{
+    let middle = bit + width as usize;
+    let next = middle + width as usize;
+    TwoRead::Values(
+        low_bits(bits_before(s, middle), width),
+        low_bits(bits_before(s, next), width),
+        BitCursor { bit: next },
+    )
 }
 
 impl BitCursor {
@@ -103,9 +199,31 @@ impl BitCursor {
             return FieldRead::Short;
         }
         let next = bit + size;
-        let end = next / 8 + (next % 8 + 7) / 8;
-        let value = (window(s, end) >> ((8 - next % 8) % 8)) % (1u64 << width);
-        FieldRead::Value(value as u32, BitCursor { bit: next })
+        FieldRead::Value(
+            low_bits(bits_before(s, next), width),
+            BitCursor { bit: next },
+        )
+    }
+
+    // Two neighbouring fields of width bits each. Up to 16 bits they come out of one window. Callers see to it that the width is at most 32.
+    pub fn read_two(self, s: &[u8], width: u32) -> TwoRead
+        requires { ⌜ width ≤ 32 ⌝ }
+        ensures { λ r. ⌜ twoSays r ≡ twoAt (now (s .entry)) (self .bit) width ⌝ }
+    {
+        let bit = self.bit;
+        if width == 0 {
+            return TwoRead::Values(0, 0, BitCursor { bit });
+        }
+        let size = width as usize;
+        if bits_left(s, bit) < 2 * size {
+            return TwoRead::Short;
+        }
+        if 16 < width {
+            return two_windows(s, bit, width);
+        }
+        let next = bit + 2 * size;
+        let f = two_of(bits_before(s, next), width);
+        TwoRead::Values(f.a, f.b, BitCursor { bit: next })
     }
 
     // The next place where a byte begins, or the same; the largest place where that is larger.

@@ -1,0 +1,78 @@
+-- `check_run` meets its contract: the fields are all there, or they are taken one by one. Assumes nothing.
+use Prim.Native.Nat.{ℕ, _+_, _*_, _≤_, _<_}
+use mathlib.Core.Path.{_≡_, sym, ap, _∙_}
+use native.Mathlib.Omega.{arith}
+use lib.ListN.{length}
+use Rattle.bits.specs.Number.{widthOf}
+use Rattle.bits.specs.Run.{zeros}
+use Rattle.bits.proofs.ThereLaws.{there-inside}
+use Rattle.bits.proofs.JudgedLaws.{run-too-long, run-said, run-empty, run-past, width-most}
+use borrow.Author.Needs.{needs}
+use Rattle.bits.proofs.fields.runs.check_run.Statement.{statement}
+use Rattle.bits.proofs.fields.runs.check_run.Tie as tie
+
+returns : tie.Need-returns
+returns c = let a = c .before .before .args in run-too-long (a .s .now) (widthOf (a .run .limit)) (a .run .limit) (a .run .count) (a .run .bit) (zeros 1) (c .if1 .taken)
+
+cast-bit-width : tie.Need-cast-bit-width
+cast-bit-width c = search needs
+
+bit-width-requires : tie.Need-bit-width-requires
+bit-width-requires c κs = search needs
+
+cast-run-there : tie.Need-cast-run-there
+cast-run-there c = search needs
+
+run-there-requires : tie.Need-run-there-requires
+run-there-requires c κs = search needs
+
+check-pairs-requires : tie.Need-check-pairs-requires
+check-pairs-requires c κs =
+    let a = c .before .before .before .before .before .before .before .args in
+    let t = there-inside (a .s .now) (a .run .bit) (c .before .before .before .bit-width .result) (a .run .count) (sym (c .before .run-there .ensures) ∙ c .if2 .taken) in
+    ((t .0), t .2)
+
+returns-2 : tie.Need-returns-2
+returns-2 c =
+    let b = c .before .before .before .before in
+    let a = b .before .before .before .before .args in
+    run-said (a .s .now) (widthOf (a .run .limit)) (a .run .limit) (a .run .count) (a .run .bit) (zeros 1) (omega arith) _ _ (b .bit-width .ensures) (c .check-pairs .ensures)
+
+returns-3 : tie.Need-returns-3
+returns-3 c = let a = c .before .before .before .before .before .before .before .before .before .args in run-empty (a .s .now) (widthOf (a .run .limit)) (a .run .limit) (a .run .count) (a .run .bit) (zeros 1) (omega arith) (omega (arith, c .if3 .taken))
+
+mul-if4 : tie.Need-mul-if4
+mul-if4 c = search needs
+
+returns-4 : tie.Need-returns-4
+returns-4 c = let a = c .before .before .before .before .before .before .before .before .before .before .before .args in run-past (a .s .now) (widthOf (a .run .limit)) (a .run .limit) (a .run .count) (a .run .bit) (zeros 1) (omega arith) (omega arith) (omega arith)
+
+check-each-requires : tie.Need-check-each-requires
+check-each-requires c κs =
+    let b = c .before .before .before .before .before .before .before in
+    let a = b .before .before .before .before .args in
+    let w = width-most (a .run .limit) (omega arith) in
+    (omega arith, omega arith, omega (arith, b .bit-width .ensures))
+
+returns-5 : tie.Need-returns-5
+returns-5 c =
+    let b = c .before .before .before .before .before .before .before .before in
+    let a = b .before .before .before .before .args in
+    run-said (a .s .now) (widthOf (a .run .limit)) (a .run .limit) (a .run .count) (a .run .bit) (zeros 1) (omega arith) _ _ (b .bit-width .ensures) (c .check-each .ensures)
+
+pub check-run-spec : {M : Type 1} → statement M
+check-run-spec =
+    tie.close
+    (tie.spec
+    returns
+    cast-bit-width
+    bit-width-requires
+    cast-run-there
+    run-there-requires
+    check-pairs-requires
+    returns-2
+    returns-3
+    mul-if4
+    returns-4
+    check-each-requires
+    returns-5)

@@ -1,0 +1,102 @@
+-- `check_turns` meets its contract. The invariant: the answer from here on is the whole answer. Assumes nothing.
+use Prim.Native.Nat.{_*_, _≤_}
+use mathlib.Core.Path.{_≡_, refl, sym, _∙_}
+use mathlib.Core.List.{[], _∷_}
+use native.Mathlib.Omega.{arith}
+use lib.ListN.{length}
+use borrow.Author.Needs.{needs}
+use Rattle.bits.specs.Run.{zeros, readRun, judged}
+use Rattle.bits.proofs.JudgedLaws.{field-none, field-short, field-out, field-on}
+use Rattle.bits.proofs.fields.runs.check_turns.Statement.{statement}
+use Rattle.bits.proofs.fields.runs.check_turns.Tie as tie
+
+abbrev Inv-loop : tie.InvT-loop
+Inv-loop s bit limit count width end size at₀ a₀ b₀ c₀ d₀ e₀ left₀ at a b c d e left =
+    (judged (readRun s width limit count bit (zeros 5)) ≡ judged (readRun s width limit left at (a ∷ b ∷ c ∷ d ∷ e ∷ [])))
+    × (at ≤ 8 * length s) × (a ≤ 65535) × (b ≤ 65535) × (c ≤ 65535) × (d ≤ 65535) × (e ≤ 65535)
+
+abbrev μ-loop : tie.MeasureT-loop
+μ-loop s bit limit count width end size at₀ a₀ b₀ c₀ d₀ e₀ left₀ at a b c d e left = left
+
+mul-end : tie.Need-mul-end Inv-loop μ-loop
+mul-end c = omega arith
+
+loop-holds : tie.Need-loop-holds Inv-loop μ-loop
+loop-holds c = (refl, omega arith, omega arith, omega arith, omega arith, omega arith, omega arith)
+
+sub-if1 : tie.Need-sub-if1 Inv-loop μ-loop
+sub-if1 c = omega arith
+
+returns : tie.Need-returns Inv-loop μ-loop
+returns c =
+    let a = c .before .before .before .before .args in
+    let l = c .before .before .loop in
+    sym (l .inv .0 ∙ field-short (a .s .now) (a .width) (a .limit) (l .left) (l .at) (l .a ∷ l .b ∷ l .c ∷ l .d ∷ l .e ∷ []) (omega arith) (omega arith))
+
+cast-stepped : tie.Need-cast-stepped Inv-loop μ-loop
+cast-stepped c = omega arith
+
+one-known-requires : tie.Need-one-known-requires Inv-loop μ-loop
+one-known-requires c κs = omega arith
+
+stepped-requires : tie.Need-stepped-requires Inv-loop μ-loop
+stepped-requires c κs = search needs
+
+returns-2 : tie.Need-returns-2 Inv-loop μ-loop
+returns-2 c =
+    let a = c .before .before .before .before .before .before .before .args in
+    let l = c .before .before .before .before .before .loop in
+    sym (l .inv .0 ∙ field-out (a .s .now) (a .width) (a .limit) (l .left) (l .at) (l .a) (l .b ∷ l .c ∷ l .d ∷ l .e ∷ []) (c .before .stepped .result) (omega arith) (omega arith) (cc) (omega arith))
+
+cast-e : tie.Need-cast-e Inv-loop μ-loop
+cast-e c = omega arith
+
+add-at : tie.Need-add-at Inv-loop μ-loop
+add-at c = omega arith
+
+sub-left : tie.Need-sub-left Inv-loop μ-loop
+sub-left c = omega arith
+
+loop-less : tie.Need-loop-less Inv-loop μ-loop
+loop-less c = omega arith
+
+loop-again : tie.Need-loop-again Inv-loop μ-loop
+loop-again c =
+    let e = c .before .before .before .before .before .before .before in
+    let l = c .before .before .before .before .before .loop in (
+      l .inv .0
+          ∙ field-on (e .args .s .now) (e .args .width) (e .args .limit) (e .pre .2) (omega arith) (l .left) (l .at) (l .a) (l .b ∷ l .c ∷ l .d ∷ l .e ∷ []) (c .before .stepped .result) (omega arith) (omega arith) (cc) (omega arith),
+      omega arith,
+      omega arith,
+      omega arith,
+      omega arith,
+      omega arith,
+      omega arith,
+    )
+
+returns-3 : tie.Need-returns-3 Inv-loop μ-loop
+returns-3 c =
+    let a = c .before .before .before .args in
+    let l = c .before .loop in
+    sym (l .inv .0 ∙ field-none (a .s .now) (a .width) (a .limit) (l .left) (l .at) (l .a ∷ l .b ∷ l .c ∷ l .d ∷ l .e ∷ []) (omega arith))
+
+pub check-turns-spec : {M : Type 1} → statement M
+check-turns-spec =
+    tie.close
+    (tie.spec
+    Inv-loop
+    μ-loop
+    mul-end
+    loop-holds
+    sub-if1
+    returns
+    cast-stepped
+    one-known-requires
+    stepped-requires
+    returns-2
+    cast-e
+    add-at
+    sub-left
+    loop-less
+    loop-again
+    returns-3)

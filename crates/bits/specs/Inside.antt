@@ -1,0 +1,38 @@
+-- What the contracts of private functions cite. No promise of a public call leans on these.
+use Prim.Native.Nat.{ℕ, _+_, _*_, _≤_, _<_}
+use mathlib.Core.Path.{_≡_}
+use mathlib.Core.Bool.{Bool, _&&_}
+use mathlib.Core.List.{List, [], _∷_}
+use lib.Dec.{leb, ltb}
+use lib.ListN.{length}
+use Rattle.bits.specs.Field.{field}
+use Rattle.bits.specs.Number.{steppedTo}
+use Rattle.bits.specs.Run.{low16}
+use Rattle.bits.specs.declared.fields.runs.Five.{Five}
+use Rattle.bits.specs.declared.fields.runs.Moved.{Moved}
+
+-- n bits from bit p on lie inside a body of at most 67,108,864 bytes, and five bytes or more end with each that follows
+pub record Inside (s : List ℕ) (p n : ℕ) : Type 0 where
+  pub short : length s ≤ 67108864
+  pub low : 33 ≤ p
+  pub whole : p + n ≤ 8 * length s
+
+-- five running numbers, in the order in which their fields come
+abbrev pub five : Five → List ℕ
+five v = v .a ∷ v .b ∷ v .c ∷ v .d ∷ v .e ∷ []
+
+-- the five fields from bit p on take the numbers v to the numbers r
+pub record MovedBy (s : List ℕ) (w p : ℕ) (v : Five) (r : Moved) : Type 0 where
+  pub first : r .a ≡ steppedTo (v .a) (field s p w)
+  pub second : r .b ≡ steppedTo (v .b) (field s (p + w) w)
+  pub third : r .c ≡ steppedTo (v .c) (field s (p + w + w) w)
+  pub fourth : r .d ≡ steppedTo (v .d) (field s (p + w + w + w) w)
+  pub fifth : r .e ≡ steppedTo (v .e) (field s (p + w + w + w + w) w)
+
+-- all five are below the limit
+abbrev pub allBelow : ℕ → Moved → Bool
+allBelow limit r = (((ltb (r .a) limit && ltb (r .b) limit) && ltb (r .c) limit) && ltb (r .d) limit) && ltb (r .e) limit
+
+-- the five in 16 bits
+abbrev pub fiveLow : Moved → List ℕ
+fiveLow r = low16 (r .a) ∷ low16 (r .b) ∷ low16 (r .c) ∷ low16 (r .d) ∷ low16 (r .e) ∷ []

@@ -1,0 +1,385 @@
+// Runs: delta fields of one width, one after the other, each of which takes a running number to the next. One pass judges a run, and a
+// later one hands its numbers out. Whether all fields are there is tested once; then two of them come out of one window.
+use super::one_inside;
+use super::one_known;
+use super::two_inside;
+use crate::numbers::bit_width;
+use crate::numbers::stepped;
+ghost use mathlib.Core.Path.{_≡_};
+ghost use mathlib.Core.List.{[], _∷_};
+ghost use Prim.Native.Nat.{_+_, _*_, _%_, _≤_};
+ghost use lib.ListN.{length};
+ghost use lib.Seq.{sets};
+ghost use Rattle.bits.specs.Verdict.{limited};
+ghost use Rattle.bits.specs.Number.{widthOf};
+ghost use Rattle.bits.specs.Run.{zeros, readRun, judged, checkSays, low16, summed, runThere, runFilled, fivesThere, fivesFilled};
+ghost use Rattle.bits.specs.Inside.{Inside, five, MovedBy, allBelow, fiveLow};
+
+// Where the first field stands, what the running numbers stay below, and how many fields there are, or how many fives of fields.
+// A field is as wide as `bit_width` of the limit.
+pub struct Run {
+    pub bit: usize,
+    pub limit: u16,
+    pub count: u32,
+}
+
+// The run is good, or the number of a refusal.
+pub enum RunCheck {
+    Good,
+    Declined(u8),
+}
+
+// The low 16 bits of a number.
+fn low_half(x: u64) -> u16
+    ensures { λ r. ⌜ r ≡ low16 x ⌝ }
+{
+    (x % 65_536) as u16
+}
+
+// ---- one running number
+
+// A run from any running number on, field by field.
+fn check_each(s: &[u8], run: Run, width: u32, from: u16) -> RunCheck
+    requires { ⌜ (length (now s) ≤ 67108864) × (run .bit ≤ 8 * length (now s)) × (width ≤ 17) ⌝ }
+    ensures answer { λ r. ⌜ checkSays r
+        ≡ judged (readRun (now (s .entry)) width (run .limit) (run .count) (run .bit) (from ∷ [])) ⌝ }
+{
+    let end = s.len() * 8;
+    let size = width as usize;
+    let limit = run.limit as u64;
+    let mut bit = run.bit;
+    let mut last = from;
+    let mut left = run.count;
+    while 0 < left {
+        if end - bit < size {
+            return RunCheck::Declined(3);
+        }
+        let number = stepped(last as u32, one_known(s, bit, width));
+        if limit <= number {
+            return RunCheck::Declined(8);
+        }
+        last = number as u16;
+        bit += size;
+        left -= 1;
+    }
+    RunCheck::Good
+}
+
+// A run whose fields are all there, two at a time.
+fn check_pairs(s: &[u8], run: Run, width: u32) -> RunCheck
+    requires { ⌜ Inside (now s) (run .bit) (run .count * width) ⌝ }
+    requires { ⌜ width ≤ 16 ⌝ }
+    ensures answer { λ r. ⌜ checkSays r ≡ judged (readRun (now (s .entry)) width (run .limit) (run .count) (run .bit) (zeros 1)) ⌝ }
+{
+    let limit = run.limit as u64;
+    let mut bit = run.bit;
+    let mut last: u16 = 0;
+    let mut left = run.count;
+    while 2 <= left {
+        let f = two_inside(s, bit, width);
+        let a = stepped(last as u32, f.a);
+        if limit <= a {
+            return RunCheck::Declined(8);
+        }
+        let b = stepped(a as u32, f.b);
+        if limit <= b {
+            return RunCheck::Declined(8);
+        }
+        last = b as u16;
+        bit += 2 * (width as usize);
+        left -= 2;
+    }
+    let rest = Run {
+        bit,
+        limit: run.limit,
+        count: left,
+    };
+    check_each(s, rest, width, last)
+}
+
+// Whether so many fields from a bit on lie inside s, where two of them share a window.
+fn run_there(s: &[u8], bit: usize, width: u32, count: usize) -> bool
+    ensures { λ r. ⌜ r ≡ runThere (now (s .entry)) bit width count ⌝ }
+{
+    if 67_108_864 < s.len() {
+        return false;
+    }
+    if width < 1 {
+        return false;
+    }
+    if 16 < width {
+        return false;
+    }
+    if bit < 33 {
+        return false;
+    }
+    let n = s.len() * 8;
+    if n < bit {
+        return false;
+    }
+    if n - bit < count {
+        return false;
+    }
+    count * (width as usize) <= n - bit
+}
+
+// Judges a run of one running number: 2, then 3 and 8 in field order.
+pub fn check_run(s: &[u8], run: Run) -> RunCheck
+    ensures answer { λ r. ⌜ checkSays r
+        ≡ limited (now (s .entry))
+        (judged (readRun (now (s .entry)) (widthOf (run .limit)) (run .limit) (run .count) (run .bit) (zeros 1))) ⌝ }
+{
+    if 67_108_864 < s.len() {
+        return RunCheck::Declined(2);
+    }
+    let width = bit_width(run.limit as u32);
+    if run_there(s, run.bit, width, run.count as usize) {
+        return check_pairs(s, run, width);
+    }
+    if run.count == 0 {
+        return RunCheck::Good;
+    }
+    if s.len() * 8 < run.bit {
+        return RunCheck::Declined(3);
+    }
+    check_each(s, run, width, 0)
+}
+
+// ---- five running numbers, which take turns
+
+// Five running numbers, in the order in which their fields come.
+struct Five {
+    a: u16,
+    b: u16,
+    c: u16,
+    d: u16,
+    e: u16,
+}
+
+// Where five fields take them: below 0 they stand far above every limit.
+struct Moved {
+    a: u64,
+    b: u64,
+    c: u64,
+    d: u64,
+    e: u64,
+}
+
+// The next five fields, which are there, and where they take five running numbers.
+fn move_five(s: &[u8], bit: usize, width: u32, v: Five) -> Moved
+    requires { ⌜ Inside (now s) bit (5 * width) ⌝ }
+    requires { ⌜ width ≤ 16 ⌝ }
+    ensures { λ r. ⌜ MovedBy (now (s .entry)) width bit v r ⌝ }
+{
+    let step = 2 * (width as usize);
+    let f = two_inside(s, bit, width);
+    let g = two_inside(s, bit + step, width);
+    let h = one_inside(s, bit + 2 * step, width);
+    Moved {
+        a: stepped(v.a as u32, f.a),
+        b: stepped(v.b as u32, f.b),
+        c: stepped(v.c as u32, g.a),
+        d: stepped(v.d as u32, g.b),
+        e: stepped(v.e as u32, h),
+    }
+}
+
+fn all_below(v: Moved, limit: u64) -> bool
+    ensures { λ r. ⌜ r ≡ allBelow limit v ⌝ }
+{
+    (v.a < limit) & (v.b < limit) & (v.c < limit) & (v.d < limit) & (v.e < limit)
+}
+
+fn low_five(v: Moved) -> Five
+    ensures { λ r. ⌜ five r ≡ fiveLow v ⌝ }
+{
+    Five {
+        a: low_half(v.a),
+        b: low_half(v.b),
+        c: low_half(v.c),
+        d: low_half(v.d),
+        e: low_half(v.e),
+    }
+}
+
+// Five running numbers over so many fields, field by field: each moves when its turn comes.
+fn check_turns(s: &[u8], bit: usize, limit: u16, count: usize, width: u32) -> RunCheck
+    requires { ⌜ (length (now s) ≤ 67108864) × (bit ≤ 8 * length (now s)) × (width ≤ 17) ⌝ }
+    ensures answer { λ r. ⌜ checkSays r ≡ judged (readRun (now (s .entry)) width limit count bit (zeros 5)) ⌝ }
+{
+    let end = s.len() * 8;
+    let size = width as usize;
+    let mut at = bit;
+    let mut a: u16 = 0;
+    let mut b: u16 = 0;
+    let mut c: u16 = 0;
+    let mut d: u16 = 0;
+    let mut e: u16 = 0;
+    let mut left = count;
+    while 0 < left {
+        if end - at < size {
+            return RunCheck::Declined(3);
+        }
+        let number = stepped(a as u32, one_known(s, at, width));
+        if limit as u64 <= number {
+            return RunCheck::Declined(8);
+        }
+        a = b;
+        b = c;
+        c = d;
+        d = e;
+        e = number as u16;
+        at += size;
+        left -= 1;
+    }
+    RunCheck::Good
+}
+
+// Five running numbers over fives of fields that are all there.
+fn check_all_fives(s: &[u8], run: Run, width: u32) -> RunCheck
+    requires { ⌜ Inside (now s) (run .bit) (run .count * (5 * width)) ⌝ }
+    requires { ⌜ width ≤ 16 ⌝ }
+    ensures answer { λ r. ⌜ checkSays r
+        ≡ judged (readRun (now (s .entry)) width (run .limit) (5 * run .count) (run .bit) (zeros 5)) ⌝ }
+{
+    let limit = run.limit as u64;
+    let mut bit = run.bit;
+    let mut v = Five {
+        a: 0,
+        b: 0,
+        c: 0,
+        d: 0,
+        e: 0,
+    };
+    let mut left = run.count;
+    while 0 < left {
+        let next = move_five(s, bit, width, v);
+        if !all_below(next, limit) {
+            return RunCheck::Declined(8);
+        }
+        v = low_five(next);
+        bit += 5 * (width as usize);
+        left -= 1;
+    }
+    RunCheck::Good
+}
+
+// Judges a run of five running numbers, which has `count` fives of fields: 2, then 3 and 8 in field order.
+pub fn check_fives(s: &[u8], run: Run) -> RunCheck
+    ensures answer { λ r. ⌜ checkSays r
+        ≡ limited (now (s .entry))
+        (judged
+        (readRun (now (s .entry)) (widthOf (run .limit)) (run .limit) (5 * run .count) (run .bit) (zeros 5))) ⌝ }
+{
+    if 67_108_864 < s.len() {
+        return RunCheck::Declined(2);
+    }
+    let width = bit_width(run.limit as u32);
+    let count = 5 * (run.count as usize);
+    if run_there(s, run.bit, width, count) {
+        return check_all_fives(s, run, width);
+    }
+    if count == 0 {
+        return RunCheck::Good;
+    }
+    if s.len() * 8 < run.bit {
+        return RunCheck::Declined(3);
+    }
+    check_turns(s, run.bit, run.limit, count, width)
+}
+
+// ---- the numbers of runs that were judged before
+
+fn put_two(out: &mut [u16], at: usize, a: u16, b: u16)
+    requires { ⌜ at + 2 ≤ length (now out) ⌝ }
+    ensures { λ _. ⌜ now (out .exit) ≡ sets (now (out .entry)) at (a ∷ b ∷ []) ⌝ }
+{
+    out[at] = a;
+    out[at + 1] = b;
+}
+
+// Stores the numbers of a run whose fields are all there, two at a time.
+fn fill_pairs(s: &[u8], start: usize, width: u32, from: u16, out: &mut [u16])
+    requires { ⌜ Inside (now s) start (length (now out) * width) ⌝ }
+    requires { ⌜ (1 ≤ width) × (width ≤ 16) ⌝ }
+    ensures numbers { λ _. ⌜ now (out .exit)
+        ≡ summed (now (s .entry)) width (length (now (out .entry))) start (from ∷ []) ⌝ }
+{
+    let n = out.len();
+    let mut bit = start;
+    let mut last = from;
+    let mut at: usize = 0;
+    while 2 <= n - at {
+        let f = two_inside(s, bit, width);
+        let a = low_half(stepped(last as u32, f.a));
+        last = low_half(stepped(a as u32, f.b));
+        put_two(out, at, a, last);
+        bit += 2 * (width as usize);
+        at += 2;
+    }
+    if at < n {
+        out[at] = low_half(stepped(last as u32, one_inside(s, bit, width)));
+    }
+}
+
+// Fills a buffer with the numbers of a run that was judged before, from any running number on, and answers whether the run is there.
+pub fn fill_run(s: &[u8], bit: usize, width: u32, from: u16, out: &mut [u16]) -> bool
+    ensures answer { λ r. ⌜ r ≡ runThere (now (s .entry)) bit width (length (now (out .entry))) ⌝ }
+    ensures numbers { λ _. ⌜ now (out .exit) ≡ runFilled (now (s .entry)) bit width (from ∷ []) (now (out .entry)) ⌝ }
+{
+    if !run_there(s, bit, width, out.len()) {
+        return false;
+    }
+    fill_pairs(s, bit, width, from, out);
+    true
+}
+
+fn put_five(out: &mut [u16], at: usize, v: Five)
+    requires { ⌜ at + 5 ≤ length (now out) ⌝ }
+    ensures { λ _. ⌜ now (out .exit) ≡ sets (now (out .entry)) at (five v) ⌝ }
+{
+    out[at] = v.a;
+    out[at + 1] = v.b;
+    out[at + 2] = v.c;
+    out[at + 3] = v.d;
+    out[at + 4] = v.e;
+}
+
+// Stores the numbers of five running numbers over whole fives of fields that are all there.
+fn fill_all_fives(s: &[u8], start: usize, width: u32, out: &mut [u16])
+    requires { ⌜ Inside (now s) start (length (now out) * width) ⌝ }
+    requires { ⌜ (1 ≤ width) × (width ≤ 16) × (length (now out) % 5 ≡ 0) ⌝ }
+    ensures numbers { λ _. ⌜ now (out .exit) ≡ summed (now (s .entry)) width (length (now (out .entry))) start (zeros 5) ⌝ }
+{
+    let n = out.len();
+    let mut bit = start;
+    let mut v = Five {
+        a: 0,
+        b: 0,
+        c: 0,
+        d: 0,
+        e: 0,
+    };
+    let mut at: usize = 0;
+    while at < n {
+        v = low_five(move_five(s, bit, width, v));
+        put_five(out, at, v);
+        bit += 5 * (width as usize);
+        at += 5;
+    }
+}
+
+// Fills a buffer of whole fives with the numbers of a run of five running numbers that was judged before, and answers whether the run is there.
+pub fn fill_fives(s: &[u8], bit: usize, width: u32, out: &mut [u16]) -> bool
+    ensures answer { λ r. ⌜ r ≡ fivesThere (now (s .entry)) bit width (now (out .entry)) ⌝ }
+    ensures numbers { λ _. ⌜ now (out .exit) ≡ fivesFilled (now (s .entry)) bit width (now (out .entry)) ⌝ }
+{
+    if out.len() % 5 != 0 {
+        return false;
+    }
+    if !run_there(s, bit, width, out.len()) {
+        return false;
+    }
+    fill_all_fives(s, bit, width, out);
+    true
+}
