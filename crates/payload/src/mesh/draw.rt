@@ -11,10 +11,10 @@ use super::measure::MeshListSize;
 use super::measure::measure_meshes;
 use super::mesh_head;
 use super::one_field;
-use super::three_fields;
 use super::word;
 use bits::BoxHeader;
 use bits::ByteCursor;
+use bits::Run;
 ghost use mathlib.Core.Path.{_≡_};
 ghost use mathlib.Core.List.{[], _∷_};
 ghost use Prim.Native.Nat.{_+_, _*_, _≤_, _<_};
@@ -66,108 +66,30 @@ fn draw_point(
     words[off + 4] = word_at(s, numbers, k + 4);
 }
 
-// Stores the words of the rest of a run, which is known to be read whole, point by point.
-fn draw_run_left(
+// Stores the words of some vertices, point by point.
+fn draw_points(
     s: &[u8],
-    p: usize,
-    w: usize,
-    m: u32,
-    count: u32,
-    from: VertexNumber,
+    points: &[u16],
     numbers: &[u16],
     base: usize,
     words: &mut [u32],
-    off: usize,
+    at: usize,
 )
-    requires { ⌜ (length (now s) ≤ 67108864) × (w ≤ 17) × (m ≤ 65536) × (64 ≤ p) × (off + 5 * count ≤ length (now words)) × Pooled (now s) (now numbers) base (5 * m) ⌝ }
-    requires { ⌜ WasRead (readRun (now s) w m count p (from .0 ∷ [])) ⌝ }
-    ensures { λ _. ⌜ now (words .exit) ≡ sets (now (words .entry)) off (runWords (wordAt (now (s .entry)) (now (numbers .entry))) base (runNumbers (readRun (now (s .entry)) w m count p (from .0 ∷ [])))) ⌝ }
-{
-    let mut bit = p;
-    let mut last = from.0;
-    let mut left = count;
-    let mut o = off;
-    while 0 < left {
-        last = bits::stepped(last as u32, one_field(s, bit, w)) as u16;
-        draw_point(s, numbers, base, VertexNumber(last), words, o);
-        o += 5;
-        bit += w;
-        left -= 1;
+    requires { ⌜ length (now s) ≤ 67108864 ⌝ }
+    requires { ⌜ PointsPooled (now s) (now numbers) base (now points) ⌝ }
+    requires { ⌜ at + 5 * length (now points) ≤ length (now words) ⌝ }
+    ensures floats {
+        λ _. ⌜ now (words .exit)
+        ≡ sets (now (words .entry)) at (runWords (wordAt (now (s .entry)) (now (numbers .entry))) base (now (points .entry))) ⌝
     }
-}
-
-// Stores the words of three vertices.
-fn draw_three(
-    s: &[u8],
-    numbers: &[u16],
-    base: usize,
-    a: VertexNumber,
-    b: VertexNumber,
-    c: VertexNumber,
-    words: &mut [u32],
-    off: usize,
-)
-    requires { ⌜ (length (now s) ≤ 67108864) × (off + 15 ≤ length (now words)) × Pooled (now s) (now numbers) (base + 5 * a .0) 5 × Pooled (now s) (now numbers) (base + 5 * b .0) 5 × Pooled (now s) (now numbers) (base + 5 * c .0) 5 ⌝ }
-    ensures { λ _. ⌜ now (words .exit) ≡ sets (now (words .entry)) off (runWords (wordAt (now (s .entry)) (now (numbers .entry))) base (a .0 ∷ b .0 ∷ c .0 ∷ [])) ⌝ }
 {
-    draw_point(s, numbers, base, a, words, off);
-    draw_point(s, numbers, base, b, words, off + 5);
-    draw_point(s, numbers, base, c, words, off + 10);
-}
-
-// Stores the words of a run of points that is known to be read whole, from any running number on. The m vertices' coordinate numbers stand
-// in numbers from base on.
-fn draw_run(
-    s: &[u8],
-    p: usize,
-    w: usize,
-    m: u32,
-    count: u32,
-    from: VertexNumber,
-    numbers: &[u16],
-    base: usize,
-    words: &mut [u32],
-    off: usize,
-)
-    requires { ⌜ (length (now s) ≤ 67108864) × (w ≤ 17) × (m ≤ 65536) × (64 ≤ p) × (off + 5 * count ≤ length (now words)) × Pooled (now s) (now numbers) base (5 * m) ⌝ }
-    requires { ⌜ WasRead (readRun (now s) w m count p (from .0 ∷ [])) ⌝ }
-    ensures { λ _. ⌜ now (words .exit) ≡ sets (now (words .entry)) off (runWords (wordAt (now (s .entry)) (now (numbers .entry))) base (runNumbers (readRun (now (s .entry)) w m count p (from .0 ∷ [])))) ⌝ }
-{
-    let mut bit = p;
-    let mut last = from.0;
-    let mut left = count;
-    let mut o = off;
-    while 3 <= left {
-        let f = three_fields(s, bit, w);
-        let a = bits::stepped(last as u32, f.a) as u16;
-        let b = bits::stepped(a as u32, f.b) as u16;
-        last = bits::stepped(b as u32, f.c) as u16;
-        draw_three(
-            s,
-            numbers,
-            base,
-            VertexNumber(a),
-            VertexNumber(b),
-            VertexNumber(last),
-            words,
-            o,
-        );
-        o += 15;
-        bit += 3 * w;
-        left -= 3;
+    let mut i = 0;
+    let mut to = at;
+    while i < points.len() {
+        draw_point(s, numbers, base, VertexNumber(points[i]), words, to);
+        to += 5;
+        i += 1;
     }
-    draw_run_left(
-        s,
-        bit,
-        w,
-        m,
-        left,
-        VertexNumber(last),
-        numbers,
-        base,
-        words,
-        o,
-    );
 }
 
 // Copies the five words of a vertex to a place before them.
@@ -187,88 +109,133 @@ fn copy_point(words: &mut [u32], from: usize, off: usize)
     words[off + 4] = e;
 }
 
-// Copies the words of three vertices, which are expanded from that place on, to a place before all of them.
-fn copy_three(
-    words: &mut [u32],
-    expanded: usize,
-    a: VertexNumber,
-    b: VertexNumber,
-    c: VertexNumber,
-    off: usize,
-)
-    requires { ⌜ (off + 15 ≤ expanded) × (expanded + 5 * a .0 + 5 ≤ length (now words)) × (expanded + 5 * b .0 + 5 ≤ length (now words)) × (expanded + 5 * c .0 + 5 ≤ length (now words)) ⌝ }
-    ensures { λ _. ⌜ now (words .exit) ≡ sets (now (words .entry)) off (runWords (wordIn (now (words .entry))) expanded (a .0 ∷ b .0 ∷ c .0 ∷ [])) ⌝ }
+// Copies the words of some vertices, which are expanded from that place on, to a place before all of them.
+fn copy_points(points: &[u16], words: &mut [u32], expanded: usize, at: usize)
+    requires { ⌜ PointsExpanded (now words) expanded (now points) ⌝ }
+    requires { ⌜ at + 5 * length (now points) ≤ expanded ⌝ }
+    ensures floats {
+        λ _. ⌜ now (words .exit)
+        ≡ sets (now (words .entry)) at (runWords (wordIn (now (words .entry))) expanded (now (points .entry))) ⌝
+    }
 {
-    copy_point(words, expanded + 5 * (a.0 as usize), off);
-    copy_point(words, expanded + 5 * (b.0 as usize), off + 5);
-    copy_point(words, expanded + 5 * (c.0 as usize), off + 10);
+    let mut i = 0;
+    let mut to = at;
+    while i < points.len() {
+        let vertex = VertexNumber(points[i]);
+        copy_point(words, expanded + 5 * (vertex.0 as usize), to);
+        to += 5;
+        i += 1;
+    }
 }
 
-// Stores the words of a run of points that is known to be read whole: before the expanded vertices by copies of them, then point by point.
-fn copy_run(
+// Stores the words of some vertices: by copies where they are expanded behind all that is stored, and else from the pool.
+fn put_points(
     s: &[u8],
-    p: usize,
-    w: usize,
-    m: u32,
-    count: u32,
+    points: &[u16],
     numbers: &[u16],
     base: usize,
     words: &mut [u32],
-    off: usize,
+    at: usize,
+    expanded: usize,
+    m: u16,
+)
+    requires { ⌜ length (now s) ≤ 67108864 ⌝ }
+    requires { ⌜ PointsPooled (now s) (now numbers) base (now points) ⌝ }
+    requires { ⌜ at + 5 * length (now points) ≤ length (now words) ⌝ }
+    requires { ⌜ PointsBelow m (now points) ⌝ }
+    requires { ⌜ ExpandedFrom at (now s) (now numbers) base (5 * m) (now words) expanded ⌝ }
+    ensures floats {
+        λ _. ⌜ now (words .exit)
+        ≡ sets (now (words .entry)) at (runWords (wordAt (now (s .entry)) (now (numbers .entry))) base (now (points .entry))) ⌝
+    }
+{
+    if expanded < at + 5 * points.len() {
+        draw_points(s, points, numbers, base, words, at);
+        return;
+    }
+    copy_points(points, words, expanded, at);
+}
+
+// How many points of a run are drawn at once, of those that are left.
+fn some_of(left: usize) -> usize
+    ensures { λ r. ⌜ SomeOf left r ⌝ }
+{
+    if left < 32 {
+        return left;
+    }
+    32
+}
+
+// Stores the words of the next points of a run, and returns the last one's vertex. Their numbers are worked out first, so that the reads of
+// their words do not wait for each other.
+fn draw_some(
+    s: &[u8],
+    run: Run,
+    from: VertexNumber,
+    numbers: &[u16],
+    base: usize,
+    words: &mut [u32],
+    at: usize,
+    expanded: usize,
+) -> VertexNumber
+    requires { ⌜ SomeRun (now s) run × (run .count ≤ 32) ⌝ }
+    requires { ⌜ PointsBelow (run .limit) (someNumbers (now s) run (from .0)) ⌝ }
+    requires { ⌜ Pooled (now s) (now numbers) base (5 * run .limit) ⌝ }
+    requires { ⌜ at + 5 * run .count ≤ length (now words) ⌝ }
+    requires { ⌜ ExpandedFrom at (now s) (now numbers) base (5 * run .limit) (now words) expanded ⌝ }
+    ensures vertex { λ r. ⌜ r .0 ≡ lastOf (from .0) (someNumbers (now (s .entry)) run (from .0)) ⌝ }
+    ensures floats {
+        λ _. ⌜ now (words .exit)
+        ≡ sets (now (words .entry)) at
+        (runWords (wordAt (now (s .entry)) (now (numbers .entry))) base (someNumbers (now (s .entry)) run (from .0))) ⌝
+    }
+{
+    let n = run.count as usize;
+    let width = bits::bit_width(run.limit as u32);
+    let mut points = [0u16; 32];
+    bits::fill_run(s, run.bit, width, from.0, &mut points[..n]);
+    put_points(s, &points[..n], numbers, base, words, at, expanded, run.limit);
+    VertexNumber(points[n - 1])
+}
+
+// Stores the words of a run of points that is known to be read whole. The vertices' coordinate numbers stand in numbers from base on;
+// `expanded` is where their words are expanded.
+fn draw_run(
+    s: &[u8],
+    run: Run,
+    numbers: &[u16],
+    base: usize,
+    words: &mut [u32],
+    at: usize,
     expanded: usize,
 )
-    requires { ⌜ (length (now s) ≤ 67108864) × (w ≤ 17) × (m ≤ 65536) × (64 ≤ p) × (off + 5 * count ≤ length (now words)) × Pooled (now s) (now numbers) base (5 * m) ⌝ }
-    requires { ⌜ WasRead (readRun (now s) w m count p one) × ExpandedFrom off (now s) (now numbers) base (5 * m) (now words) expanded ⌝ }
-    ensures { λ _. ⌜ now (words .exit) ≡ sets (now (words .entry)) off (runWords (wordAt (now (s .entry)) (now (numbers .entry))) base (runNumbers (readRun (now (s .entry)) w m count p one))) ⌝ }
-{
-    let mut bit = p;
-    let mut last: u16 = 0;
-    let mut left = count;
-    let mut o = off;
-    while 3 <= left {
-        if expanded < o + 15 {
-            draw_run(
-                s,
-                bit,
-                w,
-                m,
-                left,
-                VertexNumber(last),
-                numbers,
-                base,
-                words,
-                o,
-            );
-            return;
-        }
-        let f = three_fields(s, bit, w);
-        let a = bits::stepped(last as u32, f.a) as u16;
-        let b = bits::stepped(a as u32, f.b) as u16;
-        last = bits::stepped(b as u32, f.c) as u16;
-        copy_three(
-            words,
-            expanded,
-            VertexNumber(a),
-            VertexNumber(b),
-            VertexNumber(last),
-            o,
-        );
-        o += 15;
-        bit += 3 * w;
-        left -= 3;
+    requires { ⌜ RunPlace (now s) run ⌝ }
+    requires { ⌜ Pooled (now s) (now numbers) base (5 * run .limit) ⌝ }
+    requires { ⌜ at + 5 * run .count ≤ length (now words) ⌝ }
+    requires { ⌜ ExpandedFrom at (now s) (now numbers) base (5 * run .limit) (now words) expanded ⌝ }
+    ensures floats {
+        λ _. ⌜ now (words .exit)
+        ≡ sets (now (words .entry)) at (runWords (wordAt (now (s .entry)) (now (numbers .entry))) base (pointsOf (now (s .entry)) run)) ⌝
     }
-    draw_run(
-        s,
-        bit,
-        w,
-        m,
-        left,
-        VertexNumber(last),
-        numbers,
-        base,
-        words,
-        o,
-    );
+{
+    let limit = run.limit;
+    let step = bits::bit_width(limit as u32) as usize;
+    let mut bit = run.bit;
+    let mut last: u16 = 0;
+    let mut left = run.count as usize;
+    let mut to = at;
+    while 0 < left {
+        let n = some_of(left);
+        let some = Run {
+            bit,
+            limit,
+            count: n as u32,
+        };
+        last = draw_some(s, some, VertexNumber(last), numbers, base, words, to, expanded).0;
+        to += 5 * n;
+        bit += n * step;
+        left -= n;
+    }
 }
 
 // Stores the words of some submeshes that are known to be read whole, and returns the place after them. `expanded` is 0 where the vertices are not.
@@ -294,7 +261,12 @@ fn draw_submeshes(
     let mut o = off;
     while 0 < left {
         let n = one_field(s, bit + 16, 32);
-        copy_run(s, bit + 48, w, m, n, numbers, base, words, o, expanded);
+        let run = Run {
+            bit: bit + 48,
+            limit: m as u16,
+            count: n,
+        };
+        draw_run(s, run, numbers, base, words, o, expanded);
         o += 5 * (n as usize);
         bit += 48 + (n as usize) * w;
         left -= 1;

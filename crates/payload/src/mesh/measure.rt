@@ -1,24 +1,18 @@
 // The validating pass over a mesh list: it answers every refusal but 12, and how long the drawing is, and touches nothing.
-use super::Five;
 use super::MESH;
-use super::VertexNumber;
-use super::kept;
 use super::one_field;
-use super::step_five;
-use super::three_fields;
-use super::two_fields;
 use super::word;
 use bits::BoxHeader;
 use bits::ByteCursor;
+use bits::Run;
+use bits::RunCheck;
 ghost use mathlib.Core.Path.{_≡_};
 ghost use Prim.Native.Nat.{_+_, _*_, _≤_, _<_};
-ghost use mathlib.Core.List.{[], _∷_};
 ghost use lib.ListN.{length};
 ghost use Rattle.bits.specs.Verdict.{mapped};
 ghost use Rattle.payload.specs.Payload.{limited};
-ghost use Rattle.payload.specs.Run.{readRun, one, five};
 ghost use Rattle.payload.specs.MeshRead.{many, readSubmesh, readSubmeshes, afterCounts, readMesh, readMeshes};
-ghost use Rattle.payload.specs.Internal.{queue, placeOf, pointsEnd, submeshesSize, bodySize, Room, withBody, boxTotals, noTotals, totalsOf, runSays, submeshSays, submeshesSays, bodySays, totalsSays};
+ghost use Rattle.payload.specs.Internal.{SubmeshPlace, pointsEnd, submeshesSize, bodySize, Room, withBody, boxTotals, noTotals, totalsOf, submeshSays, submeshesSays, bodySays, totalsSays};
 ghost use Rattle.payload.specs.Meshes.{listSize, measuredSays};
 ghost use Rattle.payload.specs.Tables.{tableLengths, bodyRead, lengthsSays};
 
@@ -38,152 +32,6 @@ pub enum Measured {
     Declined(u8),
 }
 
-// The bit place after a run, or the number of a refusal.
-enum RunEnd {
-    At(usize),
-    Declined(u8),
-}
-
-// The rest of a run of vertex numbers, field by field.
-fn check_points_left(
-    s: &[u8],
-    p: usize,
-    w: usize,
-    limit: u32,
-    count: u32,
-    from: VertexNumber,
-) -> RunEnd
-    requires { ⌜ (length (now s) ≤ 67108864) × (w ≤ 17) × (limit ≤ 65536) × (64 ≤ p) × (p ≤ 8 * length (now s)) ⌝ }
-    ensures { λ r. ⌜ runSays r ≡ mapped placeOf (readRun (now (s .entry)) w limit count p (from .0 ∷ [])) ⌝ }
-{
-    let end = s.len() * 8;
-    let mut bit = p;
-    let mut last = from.0 as u32;
-    let mut left = count;
-    while 0 < left {
-        if end - bit < w {
-            return RunEnd::Declined(3);
-        }
-        let next = bits::stepped(last, one_field(s, bit, w));
-        if limit as u64 <= next {
-            return RunEnd::Declined(8);
-        }
-        last = next as u32;
-        bit += w;
-        left -= 1;
-    }
-    RunEnd::At(bit)
-}
-
-// A run of vertex numbers: one running number, three fields to a window. That the run is complete is tested once; one that is not goes
-// field by field, since a number may leave before a field is missing.
-fn check_points(s: &[u8], p: usize, w: usize, limit: u32, count: u32) -> RunEnd
-    requires { ⌜ (length (now s) ≤ 67108864) × (w ≤ 17) × (limit ≤ 65536) × (64 ≤ p) × (p ≤ 8 * length (now s)) ⌝ }
-    ensures { λ r. ⌜ runSays r ≡ mapped placeOf (readRun (now (s .entry)) w limit count p one) ⌝ }
-{
-    if s.len() * 8 - p < (count as usize) * w {
-        return check_points_left(s, p, w, limit, count, VertexNumber(0));
-    }
-    let mut bit = p;
-    let mut last: u32 = 0;
-    let mut left = count;
-    while 3 <= left {
-        let f = three_fields(s, bit, w);
-        let a = bits::stepped(last, f.a);
-        if limit as u64 <= a {
-            return RunEnd::Declined(8);
-        }
-        let b = bits::stepped(a as u32, f.b);
-        if limit as u64 <= b {
-            return RunEnd::Declined(8);
-        }
-        let c = bits::stepped(b as u32, f.c);
-        if limit as u64 <= c {
-            return RunEnd::Declined(8);
-        }
-        last = c as u32;
-        bit += 3 * w;
-        left -= 3;
-    }
-    check_points_left(s, bit, w, limit, left, VertexNumber(last as u16))
-}
-
-// The rest of a run of coordinate numbers, field by field.
-fn check_vertices_left(s: &[u8], p: usize, w: usize, limit: u32, count: u32, from: Five) -> RunEnd
-    requires { ⌜ (length (now s) ≤ 67108864) × (w ≤ 17) × (limit ≤ 65536) × (64 ≤ p) × (p ≤ 8 * length (now s)) ⌝ }
-    ensures { λ r. ⌜ runSays r ≡ mapped placeOf (readRun (now (s .entry)) w limit count p (queue from)) ⌝ }
-{
-    let end = s.len() * 8;
-    let mut bit = p;
-    let mut a = from.a;
-    let mut b = from.b;
-    let mut c = from.c;
-    let mut d = from.d;
-    let mut e = from.e;
-    let mut left = count;
-    while 0 < left {
-        if end - bit < w {
-            return RunEnd::Declined(3);
-        }
-        let next = bits::stepped(a, one_field(s, bit, w));
-        if limit as u64 <= next {
-            return RunEnd::Declined(8);
-        }
-        a = b;
-        b = c;
-        c = d;
-        d = e;
-        e = next as u32;
-        bit += w;
-        left -= 1;
-    }
-    RunEnd::At(bit)
-}
-
-// The coordinate numbers of count vertices: five running numbers, which take turns.
-fn check_vertices(s: &[u8], p: usize, w: usize, limit: u32, count: u32) -> RunEnd
-    requires { ⌜ (length (now s) ≤ 67108864) × (w ≤ 17) × (limit ≤ 65536) × (count ≤ 65536) × (64 ≤ p) × (p ≤ 8 * length (now s)) ⌝ }
-    ensures { λ r. ⌜ runSays r ≡ mapped placeOf (readRun (now (s .entry)) w limit (5 * count) p five) ⌝ }
-{
-    let group = 5 * w;
-    let mut bit = p;
-    let mut v = Five {
-        a: 0,
-        b: 0,
-        c: 0,
-        d: 0,
-        e: 0,
-    };
-    let mut left = count;
-    if s.len() * 8 - p < (count as usize) * group {
-        return check_vertices_left(s, p, w, limit, 5 * count, v);
-    }
-    while 0 < left {
-        let f = three_fields(s, bit, w);
-        let g = two_fields(s, bit + 3 * w, w);
-        let next = step_five(v, f, g);
-        if limit as u64 <= next.a {
-            return RunEnd::Declined(8);
-        }
-        if limit as u64 <= next.b {
-            return RunEnd::Declined(8);
-        }
-        if limit as u64 <= next.c {
-            return RunEnd::Declined(8);
-        }
-        if limit as u64 <= next.d {
-            return RunEnd::Declined(8);
-        }
-        if limit as u64 <= next.e {
-            return RunEnd::Declined(8);
-        }
-        v = kept(next);
-        bit += group;
-        left -= 1;
-    }
-    RunEnd::At(bit)
-}
-
 // A submesh's point count and the bit place after it, or the number of a refusal.
 enum SubmeshEnd {
     At(u32, usize),
@@ -191,7 +39,7 @@ enum SubmeshEnd {
 }
 
 fn check_submesh(s: &[u8], p: usize, w: usize, m: u32) -> SubmeshEnd
-    requires { ⌜ (length (now s) ≤ 67108864) × (w ≤ 17) × (m ≤ 65536) × (64 ≤ p) × (p ≤ 8 * length (now s)) ⌝ }
+    requires { ⌜ SubmeshPlace (now s) w m p ⌝ }
     ensures { λ r. ⌜ submeshSays r ≡ mapped pointsEnd (readSubmesh (now (s .entry)) w m p) ⌝ }
 {
     let end = s.len() * 8;
@@ -205,9 +53,14 @@ fn check_submesh(s: &[u8], p: usize, w: usize, m: u32) -> SubmeshEnd
     if 128_000 < count {
         return SubmeshEnd::Declined(7);
     }
-    match check_points(s, p + 48, w, m, count) {
-        RunEnd::At(q) => SubmeshEnd::At(count, q),
-        RunEnd::Declined(k) => SubmeshEnd::Declined(k),
+    let run = Run {
+        bit: p + 48,
+        limit: m as u16,
+        count,
+    };
+    match bits::check_run(s, run) {
+        RunCheck::Good => SubmeshEnd::At(count, p + 48 + (count as usize) * w),
+        RunCheck::Declined(k) => SubmeshEnd::Declined(k),
     }
 }
 
@@ -219,7 +72,7 @@ enum SubmeshesSize {
 
 // The submeshes from bit p on, of which there are count.
 fn check_submeshes(s: &[u8], p: usize, w: usize, m: u32, count: u32) -> SubmeshesSize
-    requires { ⌜ (length (now s) ≤ 67108864) × (w ≤ 17) × (1 ≤ w) × (m ≤ 65536) × (64 ≤ p) × (p ≤ 8 * length (now s)) ⌝ }
+    requires { ⌜ SubmeshPlace (now s) w m p ⌝ }
     ensures { λ r. ⌜ submeshesSays r ≡ mapped submeshesSize (many (readSubmesh (now (s .entry)) w m) count p) ⌝ }
 {
     let mut bit = p;
@@ -242,7 +95,7 @@ fn check_submeshes(s: &[u8], p: usize, w: usize, m: u32, count: u32) -> Submeshe
 
 // The submesh count at bit p, and the submeshes.
 fn check_counted(s: &[u8], p: usize, w: usize, m: u32) -> SubmeshesSize
-    requires { ⌜ (length (now s) ≤ 67108864) × (w ≤ 17) × (1 ≤ w) × (m ≤ 65536) × (64 ≤ p) × (p ≤ 8 * length (now s)) ⌝ }
+    requires { ⌜ SubmeshPlace (now s) w m p ⌝ }
     ensures { λ r. ⌜ submeshesSays r ≡ mapped submeshesSize (readSubmeshes (now (s .entry)) w m p) ⌝ }
 {
     let end = s.len() * 8;
@@ -268,12 +121,17 @@ fn check_vertices_on(s: &[u8], n: u32, m: u32) -> BodySize
     ensures { λ r. ⌜ bodySays r ≡ mapped bodySize (afterCounts (now (s .entry)) n m) ⌝ }
 {
     let start = 32 * (n as usize) + 64;
-    let w = bits::bit_width(n) as usize;
-    match check_vertices(s, start, w, n, m) {
-        RunEnd::Declined(k) => BodySize::Declined(k),
-        RunEnd::At(q) => {
+    let run = Run {
+        bit: start,
+        limit: n as u16,
+        count: m,
+    };
+    match bits::check_fives(s, run) {
+        RunCheck::Declined(k) => BodySize::Declined(k),
+        RunCheck::Good => {
+            let end = start + 5 * (m as usize) * (bits::bit_width(n) as usize);
             let v = bits::bit_width(m) as usize;
-            match check_counted(s, (q + 7) / 8 * 8, v, m) {
+            match check_counted(s, (end + 7) / 8 * 8, v, m) {
                 SubmeshesSize::Declined(k) => BodySize::Declined(k),
                 SubmeshesSize::Size(count, points) => BodySize::Size(m, count, points),
             }

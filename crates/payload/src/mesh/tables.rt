@@ -1,14 +1,13 @@
 // A mesh body as four tables: pool words, coordinate numbers, three words for each submesh, and the vertex numbers of the points.
 // A body is measured first. What fills the tables goes over a body that is known to be read whole, and tests nothing again.
-use super::VertexNumber;
 use super::fill_vertices;
 use super::measure::MeshMeasured;
 use super::measure::TableLengths;
 use super::measure::measure_mesh;
 use super::mesh_head;
 use super::one_field;
-use super::three_fields;
 use super::word;
+use bits::Run;
 ghost use mathlib.Core.Path.{_≡_};
 ghost use mathlib.Core.List.{[], _∷_};
 ghost use Prim.Native.Nat.{_+_, _*_, _≤_};
@@ -65,65 +64,15 @@ fn fill_rows(s: &[u8], p: usize, m: u32, count: u32, out: &mut [u32])
     }
 }
 
-// Stores the rest of a run of vertex numbers, field by field.
-fn fill_run_left(
-    s: &[u8],
-    p: usize,
-    w: usize,
-    m: u32,
-    count: u32,
-    from: VertexNumber,
-    out: &mut [u16],
-    at: usize,
-)
-    requires { ⌜ (length (now s) ≤ 67108864) × (w ≤ 17) × (m ≤ 65536) × (64 ≤ p) × (at + count ≤ length (now out)) ⌝ }
-    requires { ⌜ WasRead (readRun (now s) w m count p (from .0 ∷ [])) ⌝ }
-    ensures { λ _. ⌜ now (out .exit) ≡ sets (now (out .entry)) at (runNumbers (readRun (now (s .entry)) w m count p (from .0 ∷ []))) ⌝ }
+// Stores the vertex numbers of a run that is known to be read whole, from place at on.
+fn fill_run(s: &[u8], run: Run, out: &mut [u16], at: usize)
+    requires { ⌜ RunPlace (now s) run ⌝ }
+    requires { ⌜ at + run .count ≤ length (now out) ⌝ }
+    ensures points { λ _. ⌜ now (out .exit) ≡ sets (now (out .entry)) at (pointsOf (now (s .entry)) run) ⌝ }
 {
-    let mut bit = p;
-    let mut last = from.0;
-    let mut left = count;
-    let mut o = at;
-    while 0 < left {
-        last = bits::stepped(last as u32, one_field(s, bit, w)) as u16;
-        out[o] = last;
-        o += 1;
-        bit += w;
-        left -= 1;
-    }
-}
-
-// Stores three vertex numbers.
-fn put_three(out: &mut [u16], at: usize, a: VertexNumber, b: VertexNumber, c: VertexNumber)
-    requires { ⌜ at + 3 ≤ length (now out) ⌝ }
-    ensures { λ _. ⌜ now (out .exit) ≡ sets (now (out .entry)) at (a .0 ∷ b .0 ∷ c .0 ∷ []) ⌝ }
-{
-    out[at] = a.0;
-    out[at + 1] = b.0;
-    out[at + 2] = c.0;
-}
-
-// Stores a run of vertex numbers: one running number, three fields to a window.
-fn fill_run(s: &[u8], p: usize, w: usize, m: u32, count: u32, out: &mut [u16], at: usize)
-    requires { ⌜ (length (now s) ≤ 67108864) × (w ≤ 17) × (m ≤ 65536) × (64 ≤ p) × (at + count ≤ length (now out)) ⌝ }
-    requires { ⌜ WasRead (readRun (now s) w m count p one) ⌝ }
-    ensures { λ _. ⌜ now (out .exit) ≡ sets (now (out .entry)) at (runNumbers (readRun (now (s .entry)) w m count p one)) ⌝ }
-{
-    let mut bit = p;
-    let mut last: u16 = 0;
-    let mut left = count;
-    let mut o = at;
-    while 3 <= left {
-        let f = three_fields(s, bit, w);
-        let a = bits::stepped(last as u32, f.a) as u16;
-        let b = bits::stepped(a as u32, f.b) as u16;
-        last = bits::stepped(b as u32, f.c) as u16;
-        put_three(out, o, VertexNumber(a), VertexNumber(b), VertexNumber(last));
-        o += 3;
-        bit += 3 * w;
-        left -= 3;
-    }
-    fill_run_left(s, bit, w, m, left, VertexNumber(last), out, o);
+    let width = bits::bit_width(run.limit as u32);
+    let end = at + run.count as usize;
+    bits::fill_run(s, run.bit, width, 0, &mut out[at..end]);
 }
 
 // Stores the vertex numbers of the points of count submeshes from bit p on, over m vertices.
@@ -138,7 +87,12 @@ fn fill_points(s: &[u8], p: usize, m: u32, count: u32, out: &mut [u16])
     let mut o: usize = 0;
     while 0 < left {
         let n = one_field(s, bit + 16, 32);
-        fill_run(s, bit + 48, w, m, n, out, o);
+        let run = Run {
+            bit: bit + 48,
+            limit: m as u16,
+            count: n,
+        };
+        fill_run(s, run, out, o);
         o += n as usize;
         bit += 48 + (n as usize) * w;
         left -= 1;
