@@ -20,7 +20,9 @@ use Rattle.payload.specs.Internal.{queue, queueNext, Stepped5, placeOf, 
 use Rattle.payload.specs.declared.mesh.Five.{Five}
 use Rattle.payload.specs.declared.mesh.FiveNext.{FiveNext}
 use Rattle.payload.proofs.RunLaws.{run-short, run-out, run-on, run-spells}
-use Rattle.payload.proofs.MeshReadLaws.{width-small, submesh-run, submesh-spells, many-none, many-declined, many-on, submeshes-spell, counts-declined, counts-on}
+use Rattle.payload.proofs.RangeLaws.{width-small, many-none, many-declined, many-on}
+use Rattle.payload.proofs.SubmeshLaws.{submesh-run, submesh-spells, submeshes-spell}
+use Rattle.payload.proofs.BodyLaws.{counts-declined, counts-on}
 
 -- ---- a run: a number in front moves no place
 

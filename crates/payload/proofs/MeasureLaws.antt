@@ -19,7 +19,9 @@ use Rattle.payload.specs.Internal.{bodySize, noTotals, withMesh, totalsO
 use Rattle.payload.specs.Meshes.{listSize}
 use Rattle.payload.specs.declared.mesh.measure.Totals.{Totals}
 use Rattle.payload.specs.declared.mesh.measure.MeshListSize.{MeshListSize}
-use Rattle.payload.proofs.MeshReadLaws.{width-some, mesh-spells, header-value, at-mesh, at-other}
+use Rattle.payload.proofs.RangeLaws.{width-some}
+use Rattle.payload.proofs.MeshReadLaws.{mesh-spells}
+use Rattle.payload.proofs.BoxReadLaws.{header-value, at-mesh, at-other}
 use Rattle.payload.proofs.MeshTheorems.{meshes-reads}
 use Rattle.payload.proofs.CheckLaws.{run-fits}
 

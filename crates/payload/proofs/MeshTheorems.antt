@@ -15,7 +15,9 @@ use Rattle.payload.specs.Tables.{bodyRead}
 use Rattle.payload.specs.Laws.{MeshesReads, BodySpells, MeshReads}
 use Rattle.payload.proofs.PayloadLaws.{limited-yes, limited-value}
 use Rattle.payload.proofs.ReadLaws.{reads-laws}
-use Rattle.payload.proofs.MeshReadLaws.{mesh-spells, spells-mesh, Way, over, small, past, whole, way, from-end, from-small, from-past, from-mesh, from-other}
+use Rattle.payload.proofs.MeshReadLaws.{mesh-spells, spells-mesh}
+use Rattle.payload.proofs.BoxReadLaws.{Way, over, small, past, whole, way, from-end, from-small, from-past}
+use Rattle.payload.proofs.BoxReadLaws.{from-mesh, from-other}
 
 -- by turns, since the places go up
 boxes-spell : (s : List ℕ) (turns p : ℕ) (l : List Mesh) → p ≤ length s → length s < p + 8 * turns → readFrom s p ≡ accepted l → BoxesSpell s p l

@@ -26,7 +26,9 @@ use Rattle.payload.proofs.FillLaws.{sets-after}
 use Rattle.payload.proofs.PayloadLaws.{limited-value, limited-mapped}
 use Rattle.payload.proofs.RunLaws.{spells-run}
 use Rattle.payload.proofs.StepLaws.{read-value}
-use Rattle.payload.proofs.MeshReadLaws.{submesh-spells, many-on, header-value, at-end, at-mesh, at-other}
+use Rattle.payload.proofs.RangeLaws.{many-on}
+use Rattle.payload.proofs.SubmeshLaws.{submesh-spells}
+use Rattle.payload.proofs.BoxReadLaws.{header-value, at-end, at-mesh, at-other}
 use Rattle.payload.proofs.CheckLaws.{run-fits}
 
 -- ---- submeshes

@@ -1,4 +1,5 @@
--- Kind 2 as a program: the reading, of its parts with the bit place after them, or the number of the rule that the first field in payload order breaks.
+-- Kind 2 as a program: the reading, of its parts with the bit place after them, or the number of the rule that the
+-- first field in payload order breaks.
 use Prim.Native.Nat.{ℕ, zero, suc, _+_, _*_}
 use mathlib.Core.List.{List, [], _∷_}
 use mathlib.Core.Bool.{cond}
@@ -25,7 +26,8 @@ many read (suc n) p = andThen (read p) (λ x. andThen (many read n (x .1)) (λ l
 
 -- a submesh whose points were found
 abbrev pub submeshOf : List ℕ → ℕ → List ℕ × ℕ → Found Submesh
-submeshOf s p points = accepted (record { texture = field s p 8; mode = field s (p + 8) 8; points = points .0 }, points .1)
+submeshOf s p points =
+    accepted (record { texture = field s p 8; mode = field s (p + 8) 8; points = points .0 }, points .1)
 
 unfoldable pub readSubmesh : List ℕ → ℕ → ℕ → ℕ → Found Submesh
 readSubmesh s w m p =

@@ -60,7 +60,8 @@ submeshesAt x = aligned (verticesEnd x)
 abbrev pub submeshesEnd : Mesh → ℕ
 submeshesEnd x = submeshesAt x + 32 + sizes (submeshBits (widthOf (vertexCount x))) (x .submeshes)
 
--- coordinate count n, n words, vertex count m; m * 5 fields of width w(n); free bits to the next byte boundary, submesh count, submeshes
+-- coordinate count n, n words, vertex count m; m * 5 fields of width w(n); free bits to the next byte boundary, submesh
+-- count, submeshes
 pub record MeshSpells (s : List ℕ) (x : Mesh) : Type 0 where
   pub head : verticesAt (length (x .pool)) ≤ 8 * length s
   pub pool-count : field s 0 32 ≡ length (x .pool)
@@ -71,7 +72,8 @@ pub record MeshSpells (s : List ℕ) (x : Mesh) : Type 0 where
   pub vertex-count : field s (32 * length (x .pool) + 32) 32 ≡ vertexCount x
   pub vertex-some : 1 ≤ vertexCount x
   pub vertex-most : vertexCount x ≤ 32000
-  pub vertices-run : RunSpells s (widthOf (length (x .pool))) (length (x .pool)) (verticesAt (length (x .pool))) five (x .vertices)
+  pub vertices-run : RunSpells s (widthOf (length (x .pool))) (length (x .pool)) (verticesAt (length (x .pool))) five
+      (x .vertices)
   pub tail : submeshesAt x + 32 ≤ 8 * length s
   pub submesh-count : field s (submeshesAt x) 32 ≡ length (x .submeshes)
   pub submesh-some : 1 ≤ length (x .submeshes)
