@@ -9,15 +9,15 @@ use native.Mathlib.Omega.{arith}
 use native.Mathlib.Nat.{le-of-suc-le-suc}
 use lib.Dec.{leb}
 use lib.ListN.{length, getD}
-use borrow.Author.Tests.{le-leb, lt-leb, leb-true}
+use borrow.Author.Tests.{le-leb, lt-leb, leb-true, eq-eqb, ne-eqb}
 use Rattle.bits.specs.Verdict.{Verdict, accepted, declined, andThen}
 use Rattle.bits.specs.Field.{field}
 use Rattle.bits.specs.Number.{widthOf}
-use Rattle.bits.proofs.VerdictLaws.{le-or-lt, tested-value, then-yes, then-no, then-value}
+use Rattle.bits.proofs.VerdictLaws.{le-or-lt, clash, tested-value, then-yes, then-no, then-value}
 use Rattle.bits.proofs.NumberLaws.{width-enough, width-least}
 use Rattle.payload.specs.Run.{Found}
 use Rattle.payload.specs.MeshSpells.{EachSpells, sizes}
-use Rattle.payload.specs.MeshRead.{inRange, many, readWords}
+use Rattle.payload.specs.MeshRead.{inRange, notZero, many, readWords}
 
 -- ---- widths
 
@@ -57,6 +57,20 @@ module _ {A : Type 0} (low high n : ℕ) (v : Verdict A) where
       let t = tested-value (leb low n) (cond (leb n high) v (declined 7)) 7 a e in
       let u = tested-value (leb n high) v 7 a (t .1) in
       (leb-true low n (t .0), leb-true n high (u .0), u .1)
+
+module _ {A : Type 0} (n : ℕ) (v : Verdict A) where
+  pub notzero-no : n < 1 → notZero n v ≡ declined 7
+  notzero-no h = let z : n ≡ 0 = omega arith in simp (eq-eqb n 0 z)
+
+  pub notzero-yes : 1 ≤ n → notZero n v ≡ v
+  notzero-yes h = let z : n ≡ 0 → ⊥ = λ e. omega arith in simp (ne-eqb n 0 z)
+
+  pub notzero-value : (a : A) → notZero n v ≡ accepted a → (1 ≤ n) × (v ≡ accepted a)
+  notzero-value a e = go (le-or-lt 1 n)
+    where
+      go : (1 ≤ n) ⊎ (n < 1) → (1 ≤ n) × (v ≡ accepted a)
+      go (inl h) = (h, sym (notzero-yes h) ∙ e)
+      go (inr h) = let f = notzero-no h in clash (cc)
 
 -- ---- n things, one after the other
 

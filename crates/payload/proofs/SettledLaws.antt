@@ -12,7 +12,7 @@ use Rattle.bits.specs.Header.{Item, listEnd, box, sizedAt, headerAt}
 use Rattle.payload.specs.Mesh.{Mesh}
 use Rattle.payload.specs.Run.{Found, complete, readRun, shift, nextOf, before, one, five}
 use Rattle.payload.specs.MeshSpells.{aligned, verticesAt, part, meshType}
-use Rattle.payload.specs.MeshRead.{inRange, many, readSubmesh, submeshOf, readSubmeshes, meshOf}
+use Rattle.payload.specs.MeshRead.{inRange, notZero, many, readSubmesh, submeshOf, readSubmeshes, meshOf}
 use Rattle.payload.specs.MeshRead.{afterVertices, afterCounts, afterPoolCount, readMesh, readItem, readBoxes}
 use Rattle.payload.specs.MeshRead.{readFrom, readMeshes}
 
@@ -80,8 +80,8 @@ unfolding readSubmeshes
 settled-submeshes s w m p =
     let n = field s p 32 in
     let all = many (readSubmesh s w m) n (p + 32) in
-    settled-complete s (p + 32) (inRange 1 4294967295 n all)
-    (settled-range 1 4294967295 n all (settled-many (readSubmesh s w m) (settled-submesh s w m) n (p + 32)))
+    settled-complete s (p + 32) (notZero n all)
+    (settled-cond (eqb n 0) (declined 7) all tt (settled-many (readSubmesh s w m) (settled-submesh s w m) n (p + 32)))
 
 settled-counts : (s : List ℕ) (n m : ℕ) → Settled (afterCounts s n m)
 unfolding afterCounts afterVertices

@@ -7,7 +7,6 @@ use native.Mathlib.Omega.{arith}
 use lib.ListN.{length}
 use Rattle.bits.specs.Verdict.{accepted, declined, andThen}
 use Rattle.bits.specs.Field.{field}
-use Rattle.bits.proofs.FieldLaws.{field-lt}
 use Rattle.bits.proofs.VerdictLaws.{then-yes, then-value}
 use Rattle.payload.specs.Mesh.{Submesh}
 use Rattle.payload.specs.Run.{readRun, one}
@@ -15,7 +14,7 @@ use Rattle.payload.specs.MeshSpells.{SubmeshSpells, submeshBits, sizes, 
 use Rattle.payload.specs.MeshRead.{many, submeshOf, readSubmesh, readSubmeshes}
 use Rattle.payload.proofs.RunLaws.{complete-yes, complete-no, complete-value, run-spells, spells-run}
 use Rattle.payload.proofs.RangeLaws.{inrange-low, inrange-high, inrange-yes, inrange-value}
-use Rattle.payload.proofs.RangeLaws.{found-same, many-spells, spells-many}
+use Rattle.payload.proofs.RangeLaws.{notzero-no, notzero-yes, notzero-value, found-same, many-spells, spells-many}
 
 -- ---- a submesh
 
@@ -86,7 +85,7 @@ module _ (s : List ℕ) (w m p : ℕ) where
 
   pub submeshes-none : p + 32 ≤ 8 * length s → field s p 32 < 1 → readSubmeshes s w m p ≡ declined 7
   unfolding readSubmeshes
-  submeshes-none h l = complete-yes s (p + 32) _ h ∙ inrange-low 1 4294967295 _ _ l
+  submeshes-none h l = complete-yes s (p + 32) _ h ∙ notzero-no (field s p 32) _ l
 
   pub submeshes-value : (l : List Submesh) (t : ℕ) → readSubmeshes s w m p ≡ accepted (l, t)
       → (p + 32 ≤ 8 * length s) × (1 ≤ field s p 32)
@@ -94,15 +93,13 @@ module _ (s : List ℕ) (w m p : ℕ) where
   unfolding readSubmeshes
   submeshes-value l t e =
       let a = complete-value s (p + 32) _ (l, t) e in
-      let b = inrange-value 1 4294967295 (field s p 32) _ (l, t) (a .1) in
-      (a .0, b .0, b .2)
+      let b = notzero-value (field s p 32) _ (l, t) (a .1) in
+      (a .0, b .0, b .1)
 
 pub submeshes-on : (s : List ℕ) (w m k p : ℕ) → p + 32 ≤ 8 * length s → field s p 32 ≡ k → 1 ≤ k
     → readSubmeshes s w m p ≡ many (readSubmesh s w m) k (p + 32)
 unfolding readSubmeshes
-submeshes-on s w m k p h e l =
-    let u : k ≤ 4294967295 = omega (arith, field-lt s p 32) in
-    complete-yes s (p + 32) _ h ∙ rw e (inrange-yes 1 4294967295 k _ l u)
+submeshes-on s w m k p h e l = complete-yes s (p + 32) _ h ∙ rw e (notzero-yes k _ l)
 
 module _ (s : List ℕ) (w m : ℕ) where
   pub submeshes-spell : (k p : ℕ) (l : List Submesh) (t : ℕ) → many (readSubmesh s w m) k p ≡ accepted (l, t)

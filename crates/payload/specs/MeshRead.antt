@@ -17,6 +17,10 @@ use Rattle.payload.specs.MeshSpells.{aligned, verticesAt, part, meshType
 unfoldable pub inRange : {A : Type 0} → ℕ → ℕ → ℕ → Verdict A → Verdict A
 inRange low high n v = cond (leb low n) (cond (leb n high) v (declined 7)) (declined 7)
 
+-- a count that is not 0: 7 where it is
+abbrev pub notZero : {A : Type 0} → ℕ → Verdict A → Verdict A
+notZero n v = cond (eqb n 0) (declined 7) v
+
 -- n things, one after the other
 unfoldable pub many : {A : Type 0} → (ℕ → Found A) → ℕ → ℕ → Found (List A)
 many read zero p = accepted ([], p)
@@ -39,7 +43,7 @@ readSubmesh s w m p =
 unfoldable pub readSubmeshes : List ℕ → ℕ → ℕ → ℕ → Found (List Submesh)
 readSubmeshes s w m p =
     complete s (p + 32)
-    (inRange 1 4294967295 (field s p 32)
+    (notZero (field s p 32)
     (many (readSubmesh s w m) (field s p 32) (p + 32)))
 
 -- ---- a mesh body. Its parts, the last first: after the vertices; after the vertex count; after the coordinate count
