@@ -8,13 +8,14 @@ use lib.ListN.{length, getD}
 use Rattle.bits.specs.Verdict.{Verdict, accepted, needs, declined, within, andThen}
 use Rattle.bits.specs.Field.{field}
 use Rattle.bits.specs.Number.{below, ranOn, widthOf}
-use Rattle.bits.specs.Header.{Item, listEnd, box, sizedAt, headerAt}
+use Rattle.bits.specs.Header.{Item, listEnd, box, headerAt}
 use Rattle.payload.specs.Mesh.{Mesh}
 use Rattle.payload.specs.Run.{Found, complete, readRun, shift, nextOf, before, one, five}
 use Rattle.payload.specs.MeshSpells.{aligned, verticesAt, part, meshType}
 use Rattle.payload.specs.MeshRead.{inRange, notZero, many, readSubmesh, submeshOf, readSubmeshes, meshOf}
 use Rattle.payload.specs.MeshRead.{afterVertices, afterCounts, afterPoolCount, readMesh, readItem, readBoxes}
 use Rattle.payload.specs.MeshRead.{readFrom, readMeshes}
+use Rattle.payload.proofs.BoxReadLaws.{Way, over, broken, whole, way}
 
 abbrev Settled : {A : Type 0} → Verdict A → Type 0
 Settled (accepted a) = Unit {0}
@@ -99,14 +100,12 @@ settled-mesh s =
     (settled-complete s (verticesAt n) (inRange 1 32000 m (afterCounts s n m)) (settled-range 1 32000 m (afterCounts s n m) (settled-counts s n m))))
 
 settled-header : (s : List ℕ) (p : ℕ) → Settled (headerAt s p)
-unfolding headerAt sizedAt within
-settled-header s p =
-    let size = field s (8 * p) 32 in
-    let type = field s (8 * (p + 4)) 32 in
-    let found : Verdict Item = cond (leb (p + size) (length s)) (accepted (box type (p + 8) (p + size))) (declined 6) in
-    settled-cond (leb (p + 8) (length s)) (cond (leb 8 size) found (declined 6)) (accepted listEnd)
-    (settled-cond (leb 8 size) found (declined 6) (settled-cond (leb (p + size) (length s)) (accepted (box type (p + 8) (p + size))) (declined 6) tt tt) tt)
-    tt
+settled-header s p = go (way s p)
+  where
+    go : Way s p → Settled (headerAt s p)
+    go (over a e) = rw e tt
+    go (broken e) = rw e tt
+    go (whole b e) = rw e tt
 
 settled-item : (s : List ℕ) (rest : ℕ → Verdict (List Mesh)) → ((p : ℕ) → Settled (rest p)) → (i : Item) → Settled (readItem s rest i)
 settled-item s rest h listEnd = tt
