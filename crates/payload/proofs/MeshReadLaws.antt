@@ -13,11 +13,11 @@ use Rattle.payload.specs.Mesh.{Mesh}
 use Rattle.payload.specs.Run.{RunSpells, five}
 use Rattle.payload.specs.MeshSpells.{submeshBits, sizes, SubmeshesSpell, vertexCount, aligned, verticesAt}
 use Rattle.payload.specs.MeshSpells.{verticesEnd, submeshesAt, submeshesEnd, MeshSpells}
-use Rattle.payload.specs.MeshRead.{many, readSubmesh, readSubmeshes, readWords, meshOf, afterPoolCount, readMesh}
+use Rattle.payload.specs.MeshRead.{many, readSubmesh, readSubmeshes, readWords, meshOf, readMesh}
 use Rattle.payload.proofs.RunLaws.{complete-value, run-spells, spells-run}
 use Rattle.payload.proofs.RangeLaws.{inrange-value, words-length, words-at}
 use Rattle.payload.proofs.SubmeshLaws.{submeshes-value, submeshes-on, submeshes-spell, spell-submeshes}
-use Rattle.payload.proofs.BodyLaws.{mesh-on, pool-on, vertexRun, counts-on, counts-parts}
+use Rattle.payload.proofs.BodyLaws.{mesh-on, pool-read, pool-on, vertexRun, counts-on, counts-parts}
 
 -- ---- its parts
 
@@ -42,13 +42,13 @@ pub record MeshParts (s : List ℕ) (x : Mesh) (t : ℕ) : Type 0 where
   pub each : many (readSubmesh s (widthOf m) m) k (aligned q + 32) ≡ accepted (x .submeshes, t)
 
 pub mesh-parts : (s : List ℕ) (x : Mesh) (t : ℕ) → readMesh s ≡ accepted (x, t) → MeshParts s x t
-unfolding readMesh afterPoolCount
+unfolding readMesh
 mesh-parts s x t e =
     let n = field s 0 32 in
     let m = field s (32 * n + 32) 32 in
     let a = complete-value s 32 _ (x, t) e in
     let b = inrange-value 1 10000 n _ (x, t) (a .1) in
-    let c = complete-value s (verticesAt n) _ (x, t) (b .2) in
+    let c = complete-value s (verticesAt n) _ (x, t) (sym (pool-read s n (a .0)) ∙ b .2) in
     let d = inrange-value 1 32000 m _ (x, t) (c .1) in
     let v = counts-parts s n m x t (d .2) in
     let i = submeshes-value s (widthOf m) m (aligned (v .q)) (x .submeshes) t (v .submeshes) in
@@ -128,7 +128,7 @@ module _ (s : List ℕ) where
       mesh-on s n (omega (arith, e .head)) (e .pool-count) (e .pool-some) (e .pool-most)
       ∙ pool-on s n m (e .head) (e .vertex-count) (e .vertex-some) (e .vertex-most)
       ∙ counts-on s n m (x .vertices) q r
-      ∙ then-yes (readSubmeshes s (widthOf m) m (aligned q)) (meshOf s n (x .vertices))
+      ∙ then-yes (readSubmeshes s (widthOf m) m (aligned q)) (meshOf (readWords s 32 n) (x .vertices))
       (x .submeshes, submeshesEnd x)
       (submeshes-on s (widthOf m) m (length (x .submeshes)) (aligned q) (e .tail) (e .submesh-count) (e .submesh-some)
       ∙ spell-submeshes s (widthOf m) m (aligned q + 32) (x .submeshes) (e .submeshes-run))

@@ -1,10 +1,10 @@
--- Counts in kind 2: the widths that counts give, a count in its range, n things one after the other, and the words of a
--- pool. Assumes nothing.
+-- Counts and completeness in kind 2: the widths that counts give, a count in its range, fields that are complete, n
+-- things one after the other, and the words of a pool. Assumes nothing.
 use Prim.Native.Nat.{ℕ, zero, suc, _+_, _*_, _^_, _≤_, _<_}
 use mathlib.Core.Path.{_≡_, refl, sym, ap, _∙_}
 use mathlib.Core.Logic.{_⊎_, inl, inr}
 use mathlib.Core.List.{List, [], _∷_}
-use mathlib.Core.Bool.{cond}
+use mathlib.Core.Bool.{Bool, true, false, cond}
 use native.Mathlib.Omega.{arith}
 use native.Mathlib.Nat.{le-of-suc-le-suc}
 use lib.Dec.{leb}
@@ -15,9 +15,10 @@ use Rattle.bits.specs.Field.{field}
 use Rattle.bits.specs.Number.{widthOf}
 use Rattle.bits.proofs.VerdictLaws.{le-or-lt, clash, tested-value, then-yes, then-no, then-value}
 use Rattle.bits.proofs.NumberLaws.{width-enough, width-least}
-use Rattle.payload.specs.Run.{Found}
+use Rattle.payload.specs.Run.{Found, complete}
 use Rattle.payload.specs.MeshSpells.{EachSpells, sizes}
-use Rattle.payload.specs.MeshRead.{inRange, notZero, many, readWords}
+use Rattle.payload.specs.MeshRead.{inRange, notZero, many, readWord, readWords}
+use Rattle.payload.proofs.RunLaws.{complete-yes, complete-no}
 
 -- ---- widths
 
@@ -71,6 +72,27 @@ module _ {A : Type 0} (n : ℕ) (v : Verdict A) where
       go : (1 ≤ n) ⊎ (n < 1) → (1 ≤ n) × (v ≡ accepted a)
       go (inl h) = (h, sym (notzero-yes h) ∙ e)
       go (inr h) = let f = notzero-no h in clash (cc)
+
+-- ---- fields that are complete
+
+-- what follows them
+pub complete-then : {A B : Type 0} (s : List ℕ) (e : ℕ) (v : Verdict A) (f : A → Verdict B)
+    → andThen (complete s e v) f ≡ complete s e (andThen v f)
+unfolding complete
+complete-then s e v f = go (leb e (8 * length s))
+  where
+    go : (b : Bool) → andThen (cond b v (declined 3)) f ≡ cond b (andThen v f) (declined 3)
+    go true = refl
+    go false = refl
+
+-- those that end sooner need no test of their own
+pub complete-sooner : {A : Type 0} (s : List ℕ) (d e : ℕ) (v : Verdict A) → d ≤ e
+    → complete s d (complete s e v) ≡ complete s e v
+complete-sooner s d e v h = go (le-or-lt d (8 * length s))
+  where
+    go : (d ≤ 8 * length s) ⊎ (8 * length s < d) → complete s d (complete s e v) ≡ complete s e v
+    go (inl l) = complete-yes s d (complete s e v) l
+    go (inr l) = complete-no s d (complete s e v) l ∙ sym (complete-no s e v (omega arith))
 
 -- ---- n things, one after the other
 
@@ -146,3 +168,29 @@ words-at s p zero i h = absurd (omega arith)
 words-at s p (suc n) zero h = ap (λ (k : ℕ). field s k 32) (omega arith)
 words-at s p (suc n) (suc i) h =
     words-at s (p + 32) n i (le-of-suc-le-suc h) ∙ ap (λ (k : ℕ). field s k 32) (omega arith)
+
+-- n words from a bit on that are read one by one: all are complete where their bits are there, and else 3 is said
+pub words-read : (s : List ℕ) (n p : ℕ) → p ≤ 8 * length s
+    → many (readWord s) n p ≡ complete s (p + 32 * n) (accepted (readWords s p n, p + 32 * n))
+unfolding readWords
+words-read s zero p h =
+    let z : p ≡ p + 32 * 0 = omega arith in
+    many-none (readWord s) p
+    ∙ sym (complete-yes s p (accepted ([], p)) h)
+    ∙ ap (λ (k : ℕ). complete s k (accepted ([], k))) z
+words-read s (suc n) p h = go (le-or-lt (p + 32) (8 * length s)) (words-read s n (p + 32))
+  where
+    go : (p + 32 ≤ 8 * length s) ⊎ (8 * length s < p + 32)
+        → (p + 32 ≤ 8 * length s → many (readWord s) n (p + 32)
+        ≡ complete s (p + 32 + 32 * n) (accepted (readWords s (p + 32) n, p + 32 + 32 * n)))
+        → many (readWord s) (suc n) p
+        ≡ complete s (p + 32 * suc n) (accepted (field s p 32 ∷ readWords s (p + 32) n, p + 32 * suc n))
+    go (inl l) ih =
+        let z : p + 32 + 32 * n ≡ p + 32 * suc n = omega arith in
+        many-on (readWord s) n p (field s p 32) (p + 32) (complete-yes s (p + 32) _ l)
+        ∙ ap (λ (v : Found (List ℕ)). andThen v (λ l. accepted (field s p 32 ∷ l .0, l .1))) (ih l)
+        ∙ complete-then s (p + 32 + 32 * n) _ (λ l. accepted (field s p 32 ∷ l .0, l .1))
+        ∙ ap (λ (k : ℕ). complete s k (accepted (field s p 32 ∷ readWords s (p + 32) n, k))) z
+    go (inr l) ih =
+        many-declined (readWord s) n p 3 (complete-no s (p + 32) _ l)
+        ∙ sym (complete-no s (p + 32 * suc n) _ (omega arith))

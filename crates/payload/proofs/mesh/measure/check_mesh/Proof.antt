@@ -38,7 +38,7 @@ returns-4 c =
     let a = c .before .before .before .before .before .before .args in
     let n = c .before .before .before .word in
     let on = mesh-on (a .s .now) (n .result) (omega arith) (sym (n .ensures)) (omega arith) (omega arith) in
-    sym (ap (mapped bodySize) (on ∙ pool-short (a .s .now) (n .result) (omega arith)))
+    sym (ap (mapped bodySize) (on ∙ pool-short (a .s .now) (n .result) (omega arith) (omega arith)))
 
 cast-word : tie.Need-cast-word
 cast-word c = search needs
