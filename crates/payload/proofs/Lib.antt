@@ -40,3 +40,4 @@ pub mod BoxLaws
 pub mod JudgeLaws
 pub mod PutBoxLaws
 pub mod MeshWriteProofs
+pub mod Theorems
