@@ -16,7 +16,9 @@ use Rattle.bits.proofs.FieldLaws.{field-append, field-append-right, field-drop,
 use Rattle.bits.proofs.NumberLaws.{width-enough}
 use Rattle.payload.specs.Laws.{PlainBox}
 use Rattle.payload.specs.Mesh.{Mesh, Submesh}
-use Rattle.payload.specs.MeshSpells.{BoxesSpell, MeshSpells, MeshesSpell, WholeBox, ends, holds, meshType, part, sizeAt, sizes, skips, submeshBits, submeshesAt, submeshesEnd, typeAt, vertexCount, verticesEnd}
+use Rattle.payload.specs.MeshSpells.{BoxesSpell, MeshSpells, MeshesSpell, WholeBox, bodyAt, endAt, ends, headerBytes}
+use Rattle.payload.specs.MeshSpells.{holds, meshType, part, sizeAt, sizes, skips, submeshBits, submeshesAt}
+use Rattle.payload.specs.MeshSpells.{submeshesEnd, typeAt, vertexCount, verticesEnd}
 use Rattle.payload.specs.MeshWrite.{boxSize, gap, meshBody, meshBox, meshFields, runFields, submeshesFields, vertexFields, wordFields}
 use Rattle.payload.specs.Packed.{Field, Fits, Laid, bits, spare}
 use Rattle.payload.specs.Run.{five}
@@ -122,11 +124,15 @@ body-written s x e c between stop after =
 
 -- ---- a box
 
+-- where the body of the first box begins, and where the box ends, by its size
+first-box : (s : List ℕ) (n : ℕ) → sizeAt s 0 ≡ n → (bodyAt s 0 ≡ headerBytes) × (endAt s 0 ≡ n)
+first-box s n e = (omega arith, omega arith)
+
 module _ (x : Mesh) where
   header : List ℕ
   header = bytesOf 4 (boxSize x) ++ bytesOf 4 meshType
 
-  header-length : length header ≡ 8
+  header-length : length header ≡ headerBytes
   unfolding header
   header-length = length-append (bytesOf 4 (boxSize x)) (bytesOf 4 meshType) ∙ ap₂ (λ (a b : ℕ). a + b) (length-bytes 4 (boxSize x)) (length-bytes 4 meshType)
 
@@ -155,17 +161,20 @@ module _ (x : Mesh) where
         ∙ field-append-right (bytesOf 4 (boxSize x)) (bytesOf 4 meshType) 0 32
         ∙ field-bytesOf 4 meshType
 
-    box-part : part (meshBox x) (0 + 8) (0 + sizeAt (meshBox x) 0) ≡ meshBody x
+    box-part : part (meshBox x) (bodyAt (meshBox x) 0) (endAt (meshBox x) 0) ≡ meshBody x
     box-part =
-        ap (take (0 + sizeAt (meshBox x) 0 - (0 + 8))) box-body
-        ∙ take-all (0 + sizeAt (meshBox x) 0 - (0 + 8)) (meshBody x) (omega (arith, box-size, body-length x, mesh-bits x))
+        let f = first-box (meshBox x) (boxSize x) box-size in
+        rw (f .0, f .1)
+        (ap (take (boxSize x - headerBytes)) box-body
+        ∙ take-all (boxSize x - headerBytes) (meshBody x) (omega (arith, body-length x, mesh-bits x)))
 
     -- the list of the mesh alone spells its box
     pub box-spells : MeshesSpell (x ∷ []) (meshBox x)
     box-spells =
-        let s = box-size in
+        let f = first-box (meshBox x) (boxSize x) box-size in
         let l = box-length in
-        holds {p = 0} {x = x} {l = []} (record { header = omega arith; least = omega arith; most = omega arith }) box-type (rw box-part (body-spells x h)) (ends {p = 0 + sizeAt (meshBox x) 0} (omega arith) (omega arith))
+        holds {p = 0} {x = x} {l = []} (record { header = omega arith; least = omega arith; most = omega arith }) box-type
+        (rw box-part (body-spells x h)) (ends {p = endAt (meshBox x) 0} (omega arith) (omega arith))
 
 -- ---- a plain box
 
@@ -190,24 +199,26 @@ four s v b l e =
 pub record Held (s : List ℕ) (p : ℕ) (x : Mesh) : Type 0 where
   pub whole : WholeBox s p
   pub type : typeAt s p ≡ meshType
-  pub spells : MeshSpells (part s (p + 8) (p + sizeAt s p)) x
+  pub spells : MeshSpells (part s (bodyAt s p) (endAt s p)) x
 
 nothing-left : {s : List ℕ} {p : ℕ} {x : Mesh} {l : List Mesh} → length s ≤ p → BoxesSpell s p (x ∷ l) → ⊥
 nothing-left h (holds b y m r) = omega (arith, b .header)
 nothing-left h (skips b n r) = omega (arith, b .header)
 
-held : {s : List ℕ} {p : ℕ} {x : Mesh} {l : List Mesh} → length s ≤ p + sizeAt s p → BoxesSpell s p (x ∷ l) → Held s p x
+held : {s : List ℕ} {p : ℕ} {x : Mesh} {l : List Mesh} → length s ≤ endAt s p → BoxesSpell s p (x ∷ l) → Held s p x
 held h (holds b y m r) = record { whole = b; type = y; spells = m }
 held h (skips b n r) = absurd (nothing-left h r)
 
 module _ (s : List ℕ) (x : Mesh) (e : MeshesSpell (x ∷ []) s) (b : PlainBox x s) where
   in-box : Held s 0 x
-  in-box = held (omega (arith, b .lone)) e
+  in-box = held (omega (arith, first-box s (length s) (b .lone) .1)) e
 
   pub plain-body : MeshSpells (drop 8 s) x
   plain-body =
       let n : length (drop 8 s) ≡ length s - 8 = length-drop 8 s in
-      let t : part s (0 + 8) (0 + sizeAt s 0) ≡ drop 8 s = take-all (0 + sizeAt s 0 - (0 + 8)) (drop 8 s) (omega (arith, b .lone)) in
+      let f = first-box s (length s) (b .lone) in
+      let t : part s (bodyAt s 0) (endAt s 0) ≡ drop 8 s =
+      rw (f .0, f .1) (take-all (length s - headerBytes) (drop 8 s) (omega arith)) in
       rw t at (in-box .spells)
 
   pub plain-size : boxSize x ≡ length s

@@ -14,13 +14,15 @@ use Rattle.bits.proofs.NumberLaws.{stepped-in, stepped-out}
 use Rattle.payload.specs.Mesh.{Submesh}
 use Rattle.payload.specs.Run.{RunSpells, Found, before, readRun, one, five}
 use Rattle.payload.specs.MeshSpells.{aligned, verticesAt}
-use Rattle.payload.specs.MeshRead.{many, submeshOf, readSubmesh, readSubmeshes, meshOf, afterCounts}
+use Rattle.payload.specs.MeshRead.{many, submeshOf, readSubmesh, readSubmeshes, readWords, meshOf, afterCounts}
 use Rattle.payload.specs.MeshDrawing.{pointCount}
 use Rattle.payload.specs.Internal.{queue, queueNext, Stepped5, placeOf, pointsEnd, submeshesSize, bodySize}
 use Rattle.payload.specs.declared.mesh.Five.{Five}
 use Rattle.payload.specs.declared.mesh.FiveNext.{FiveNext}
 use Rattle.payload.proofs.RunLaws.{run-short, run-out, run-on, run-spells}
-use Rattle.payload.proofs.MeshReadLaws.{width-small, submesh-run, submesh-spells, many-none, many-declined, many-on, submeshes-spell, counts-declined, counts-on}
+use Rattle.payload.proofs.RangeLaws.{width-small, many-none, many-declined, many-on}
+use Rattle.payload.proofs.SubmeshLaws.{submesh-run, submesh-spells, submeshes-spell}
+use Rattle.payload.proofs.BodyLaws.{counts-declined, counts-on}
 
 -- ---- a run: a number in front moves no place
 
@@ -230,7 +232,7 @@ module _ (s : List ℕ) (n m w : ℕ) (ew : w ≡ widthOf n) where
         let c : length (f .0) / 5 ≡ m = omega (arith, f .2) in
         rw (d, ev) (go (f .0) c (readSubmeshes s (widthOf m) m (aligned q)) ∙ sym (ap (mapped bodySize) (counts-on s n m (f .0) q (f .1))))
       where
-        go : (vs : List ℕ) → length vs / 5 ≡ m → (v : Found (List Submesh)) → mapped (λ z. (m, z .0, z .1)) (mapped submeshesSize v) ≡ mapped bodySize (andThen v (meshOf s n vs))
+        go : (vs : List ℕ) → length vs / 5 ≡ m → (v : Found (List Submesh)) → mapped (λ z. (m, z .0, z .1)) (mapped submeshesSize v) ≡ mapped bodySize (andThen v (meshOf (readWords s 32 n) vs))
         go vs c (accepted l) = rw c
         go vs c (needs l) = refl
         go vs c (declined k) = refl

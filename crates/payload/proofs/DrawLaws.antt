@@ -24,7 +24,8 @@ use Rattle.payload.specs.declared.mesh.draw.Place.{Place}
 use Rattle.payload.specs.declared.mesh.measure.MeshListSize.{MeshListSize}
 use Rattle.payload.proofs.FillLaws.{sets-append, sets-after, getD-sets, sets-front}
 use Rattle.payload.proofs.StepLaws.{read-value}
-use Rattle.payload.proofs.MeshReadLaws.{width-small, words-at, MeshParts, mesh-parts, parts-vertices, parts-submeshes}
+use Rattle.payload.proofs.RangeLaws.{width-small, words-at}
+use Rattle.payload.proofs.MeshReadLaws.{MeshParts, mesh-parts, parts-vertices, parts-submeshes}
 use Rattle.payload.proofs.MeasureLaws.{run-floats, submesh-floats}
 use Rattle.payload.proofs.TurnLaws.{SubmeshTurn, turn-stored, mesh-is, box-skipped, BoxTurn, list-end, Listed, not-listed, listed-lengths}
 

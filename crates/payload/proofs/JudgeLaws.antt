@@ -17,7 +17,7 @@ use Rattle.payload.specs.Mesh.{Mesh}
 use Rattle.payload.specs.MeshWrite.{allBelow, boxSize, every, isMesh, meshBox, meshWritten, tablesMesh}
 use Rattle.payload.specs.Writing.{countsFit, lengthsFit, rowsFit, sizeOf}
 use Rattle.payload.proofs.BoxLaws.{box-length}
-use Rattle.payload.proofs.MeshReadLaws.{width-small, width-some}
+use Rattle.payload.proofs.RangeLaws.{width-small, width-some}
 use Rattle.payload.proofs.MeshWriteLaws.{Under, Within, mesh-bits}
 use Rattle.payload.proofs.PutRunLaws.{rest-cons, rest-none}
 use Rattle.payload.proofs.RowLaws.{cond-inv, every-inv, not-so, rows-count, rows-made, rows-right, rows-told}

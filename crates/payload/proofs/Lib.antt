@@ -16,7 +16,11 @@ pub mod CubeMarked
 pub mod RunLaws
 pub mod WindowLaws
 pub mod StepLaws
+pub mod RangeLaws
+pub mod SubmeshLaws
+pub mod BodyLaws
 pub mod MeshReadLaws
+pub mod BoxReadLaws
 pub mod MeshTheorems
 pub mod MeshProofs
 pub mod CheckLaws
@@ -36,3 +40,4 @@ pub mod BoxLaws
 pub mod JudgeLaws
 pub mod PutBoxLaws
 pub mod MeshWriteProofs
+pub mod Theorems

@@ -12,14 +12,17 @@ use Rattle.bits.specs.Number.{widthOf}
 use Rattle.bits.specs.Header.{box, headerAt}
 use Rattle.bits.proofs.VerdictLaws.{clash, then-yes, then-no, mapped-value, mapped-declined}
 use Rattle.payload.specs.Mesh.{Submesh, Mesh}
-use Rattle.payload.specs.MeshSpells.{submeshBits, SubmeshesSpell, vertexCount, submeshesAt, MeshSpells, meshType, part, sizeAt, sizes, BoxesSpell, ends, holds, skips}
+use Rattle.payload.specs.MeshSpells.{submeshBits, SubmeshesSpell, vertexCount, submeshesAt, MeshSpells, meshType}
+use Rattle.payload.specs.MeshSpells.{part, headerBytes, bodyAt, endAt, sizes, BoxesSpell, ends, holds, skips}
 use Rattle.payload.specs.MeshRead.{readMesh, readFrom, readMeshes}
 use Rattle.payload.specs.MeshDrawing.{drawnNumbers, runWords, submeshWords, meshWords, coordinate, drawnFloats, submeshRecords, recordsFrom, drawnRecords, pointCount, submeshTotal, pointTotal}
 use Rattle.payload.specs.Internal.{bodySize, noTotals, withMesh, totalsOf, withBody, Room, boxTotals}
 use Rattle.payload.specs.Meshes.{listSize}
 use Rattle.payload.specs.declared.mesh.measure.Totals.{Totals}
 use Rattle.payload.specs.declared.mesh.measure.MeshListSize.{MeshListSize}
-use Rattle.payload.proofs.MeshReadLaws.{width-some, mesh-spells, header-value, at-mesh, at-other}
+use Rattle.payload.proofs.RangeLaws.{width-some}
+use Rattle.payload.proofs.MeshReadLaws.{mesh-spells}
+use Rattle.payload.proofs.BoxReadLaws.{body-after, header-value, at-mesh, at-other}
 use Rattle.payload.proofs.MeshTheorems.{meshes-reads}
 use Rattle.payload.proofs.CheckLaws.{run-fits}
 
@@ -50,7 +53,7 @@ body-bits s m k points e =
     omega (arith, mesh-bits s x (mesh-spells s x (v .0 .1) (v .1)))
 
 -- a mesh in the bytes from body to end has its room there
-room-mesh : (s : List ℕ) (t : Totals) (x : Mesh) (p body end : ℕ) → p + 8 ≤ body → body ≤ end → MeshSpells (part s body end) x → Room t p → Room (withMesh t x) end
+room-mesh : (s : List ℕ) (t : Totals) (x : Mesh) (p body end : ℕ) → p + headerBytes ≤ body → body ≤ end → MeshSpells (part s body end) x → Room t p → Room (withMesh t x) end
 room-mesh s t x p body end h k e r =
     let b = mesh-bits (part s body end) x e in
     let n : length (part s body end) ≤ end - body = simp length-take (omega arith) in
@@ -124,20 +127,20 @@ module _ (s : List ℕ) (p type body end : ℕ) (t : Totals) (h : headerAt s p �
       go (yes y) =
           let b = header-value s p type body end h in
           let v = mapped-value (withBody t) (readMesh (part s body end)) u (a ∙ box-counted s type body end t y) in
-          rw (← v .2) (room-mesh s t (v .0 .0) p body end (omega (arith, b .2)) (omega (arith, b .0 .least, b .2, b .3)) (mesh-spells (part s body end) (v .0 .0) (v .0 .1) (v .1)) r)
+          rw (← v .2) (room-mesh s t (v .0 .0) p body end (omega (arith, body-after s p, b .2)) (omega (arith, b .0 .least, b .2, b .3)) (mesh-spells (part s body end) (v .0 .0) (v .0 .1) (v .1)) r)
       go (no n) =
           let b = header-value s p type body end h in
           let f = box-skipped s type body end t n in
           let i : t ≡ u = cc in
-          rw (← i) (room-on t p end (omega (arith, b .0 .least, b .3)) r)
+          rw (← i) (room-on t p end (omega (arith, body-after s p, b .0 .least, b .3)) r)
 
 -- ---- the totals of a list that was read
 
 pub totals-room : {s : List ℕ} {p : ℕ} {l : List Mesh} (t : Totals) → BoxesSpell s p l → Room t p → Room (totalsOf t l) (length s)
 totals-room {s} {p} t (ends i e) r = room-on t p (length s) i r
 totals-room {s} {p} t (holds {x = x} {l = l} b y m e) r =
-    totals-room (withMesh t x) e (room-mesh s t x p (p + 8) (p + sizeAt s p) (omega arith) (omega (arith, b .least)) m r)
-totals-room {s} {p} t (skips b n e) r = totals-room t e (room-on t p (p + sizeAt s p) (omega arith) r)
+    totals-room (withMesh t x) e (room-mesh s t x p (bodyAt s p) (endAt s p) (body-after s p) (b .least) m r)
+totals-room {s} {p} t (skips b n e) r = totals-room t e (room-on t p (endAt s p) (omega (arith, body-after s p, b .least)) r)
 
 -- the coordinates counted
 abbrev pub coordinateTotal : List Mesh → ℕ

@@ -8,11 +8,14 @@ use lib.ListN.{length, getD}
 use Rattle.bits.specs.Verdict.{Verdict, accepted, needs, declined, within, andThen}
 use Rattle.bits.specs.Field.{field}
 use Rattle.bits.specs.Number.{below, ranOn, widthOf}
-use Rattle.bits.specs.Header.{Item, listEnd, box, sizedAt, headerAt}
+use Rattle.bits.specs.Header.{Item, listEnd, box, headerAt}
 use Rattle.payload.specs.Mesh.{Mesh}
 use Rattle.payload.specs.Run.{Found, complete, readRun, shift, nextOf, before, one, five}
-use Rattle.payload.specs.MeshSpells.{aligned, verticesAt, part, meshType}
-use Rattle.payload.specs.MeshRead.{inRange, many, readSubmesh, submeshOf, readSubmeshes, meshOf, afterVertices, afterCounts, afterPoolCount, readMesh, readItem, readBoxes, readFrom, readMeshes}
+use Rattle.payload.specs.MeshSpells.{aligned, part, meshType}
+use Rattle.payload.specs.MeshRead.{inRange, notZero, many, readSubmesh, submeshOf, readSubmeshes, readWord, meshOf}
+use Rattle.payload.specs.MeshRead.{afterVertices, afterVertexCount, afterPool, afterPoolCount, readMesh, readItem}
+use Rattle.payload.specs.MeshRead.{readBoxes, readFrom, readMeshes}
+use Rattle.payload.proofs.BoxReadLaws.{Way, over, broken, whole, way}
 
 abbrev Settled : {A : Type 0} → Verdict A → Type 0
 Settled (accepted a) = Unit {0}
@@ -78,32 +81,40 @@ unfolding readSubmeshes
 settled-submeshes s w m p =
     let n = field s p 32 in
     let all = many (readSubmesh s w m) n (p + 32) in
-    settled-complete s (p + 32) (inRange 1 4294967295 n all) (settled-range 1 4294967295 n all (settled-many (readSubmesh s w m) (settled-submesh s w m) n (p + 32)))
+    settled-complete s (p + 32) (notZero n all)
+    (settled-cond (eqb n 0) (declined 7) all tt (settled-many (readSubmesh s w m) (settled-submesh s w m) n (p + 32)))
 
-settled-counts : (s : List ℕ) (n m : ℕ) → Settled (afterCounts s n m)
-unfolding afterCounts afterVertices
-settled-counts s n m =
-    settled-then (readRun s (widthOf n) n (5 * m) (verticesAt n) five) (afterVertices s n m) (settled-run s (widthOf n) n (5 * m) (verticesAt n) five)
-    (λ v. settled-then (readSubmeshes s (widthOf m) m (aligned (v .1))) (meshOf s n (v .0)) (settled-submeshes s (widthOf m) m (aligned (v .1))) (λ l. tt))
+settled-vertices : (s : List ℕ) (n : ℕ) (pool : List ℕ) (m p : ℕ) → Settled (afterVertexCount s n pool m p)
+unfolding afterVertices
+settled-vertices s n pool m p =
+    settled-then (readRun s (widthOf n) n (5 * m) p five) (afterVertices s pool m) (settled-run s (widthOf n) n (5 * m) p five)
+    (λ v. settled-then (readSubmeshes s (widthOf m) m (aligned (v .1))) (meshOf pool (v .0))
+    (settled-submeshes s (widthOf m) m (aligned (v .1))) (λ l. tt))
+
+settled-pool : (s : List ℕ) (n : ℕ) (pool : List ℕ × ℕ) → Settled (afterPool s n pool)
+settled-pool s n pool =
+    let m = field s (pool .1) 32 in
+    let rest = afterVertexCount s n (pool .0) m (pool .1 + 32) in
+    settled-complete s (pool .1 + 32) (inRange 1 32000 m rest)
+    (settled-range 1 32000 m rest (settled-vertices s n (pool .0) m (pool .1 + 32)))
 
 settled-mesh : (s : List ℕ) → Settled (readMesh s)
 unfolding readMesh afterPoolCount
 settled-mesh s =
     let n = field s 0 32 in
-    let m = field s (32 * n + 32) 32 in
     settled-complete s 32 (inRange 1 10000 n (afterPoolCount s n))
     (settled-range 1 10000 n (afterPoolCount s n)
-    (settled-complete s (verticesAt n) (inRange 1 32000 m (afterCounts s n m)) (settled-range 1 32000 m (afterCounts s n m) (settled-counts s n m))))
+    (settled-then (many (readWord s) n 32) (afterPool s n)
+    (settled-many (readWord s) (λ p. settled-complete s (p + 32) (accepted (field s p 32, p + 32)) tt) n 32)
+    (settled-pool s n)))
 
 settled-header : (s : List ℕ) (p : ℕ) → Settled (headerAt s p)
-unfolding headerAt sizedAt within
-settled-header s p =
-    let size = field s (8 * p) 32 in
-    let type = field s (8 * (p + 4)) 32 in
-    let found : Verdict Item = cond (leb (p + size) (length s)) (accepted (box type (p + 8) (p + size))) (declined 6) in
-    settled-cond (leb (p + 8) (length s)) (cond (leb 8 size) found (declined 6)) (accepted listEnd)
-    (settled-cond (leb 8 size) found (declined 6) (settled-cond (leb (p + size) (length s)) (accepted (box type (p + 8) (p + size))) (declined 6) tt tt) tt)
-    tt
+settled-header s p = go (way s p)
+  where
+    go : Way s p → Settled (headerAt s p)
+    go (over a e) = rw e tt
+    go (broken e) = rw e tt
+    go (whole b e) = rw e tt
 
 settled-item : (s : List ℕ) (rest : ℕ → Verdict (List Mesh)) → ((p : ℕ) → Settled (rest p)) → (i : Item) → Settled (readItem s rest i)
 settled-item s rest h listEnd = tt

@@ -21,7 +21,8 @@ use Rattle.payload.specs.declared.mesh.measure.TableLengths.{TableLength
 use Rattle.payload.proofs.FillLaws.{sets-after, sets-front}
 use Rattle.payload.proofs.PayloadLaws.{limited-yes, limited-no, limited-value}
 use Rattle.payload.proofs.StepLaws.{was-read, read-value, Turn, Got3}
-use Rattle.payload.proofs.MeshReadLaws.{words-length, MeshParts, mesh-parts, mesh-spells}
+use Rattle.payload.proofs.RangeLaws.{words-length}
+use Rattle.payload.proofs.MeshReadLaws.{MeshParts, mesh-parts, mesh-spells}
 use Rattle.payload.proofs.TurnLaws.{SubmeshTurn, turn-stored, mesh-is}
 
 -- the same list stored

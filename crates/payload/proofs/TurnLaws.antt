@@ -16,7 +16,7 @@ use Rattle.bits.proofs.NumberLaws.{width-least}
 use Rattle.payload.specs.Payload.{limited}
 use Rattle.payload.specs.Mesh.{Submesh, Mesh}
 use Rattle.payload.specs.Run.{Found, readRun, one}
-use Rattle.payload.specs.MeshSpells.{meshType, part}
+use Rattle.payload.specs.MeshSpells.{headerBytes, meshType, part}
 use Rattle.payload.specs.MeshRead.{many, readSubmesh, readMesh, readFrom, readMeshes}
 use Rattle.payload.specs.MeshDrawing.{pointCount, drawnNumbers, drawnFloats, drawnRecords}
 use Rattle.payload.specs.Meshes.{listSize}
@@ -26,7 +26,9 @@ use Rattle.payload.proofs.FillLaws.{sets-after}
 use Rattle.payload.proofs.PayloadLaws.{limited-value, limited-mapped}
 use Rattle.payload.proofs.RunLaws.{spells-run}
 use Rattle.payload.proofs.StepLaws.{read-value}
-use Rattle.payload.proofs.MeshReadLaws.{submesh-spells, many-on, header-value, at-end, at-mesh, at-other}
+use Rattle.payload.proofs.RangeLaws.{many-on}
+use Rattle.payload.proofs.SubmeshLaws.{submesh-spells}
+use Rattle.payload.proofs.BoxReadLaws.{body-after, header-value, at-end, at-mesh, at-other}
 use Rattle.payload.proofs.CheckLaws.{run-fits}
 
 -- ---- submeshes
@@ -141,7 +143,7 @@ module _ (s : List ℕ) (type body end : ℕ) where
 
 -- the next box of a list that was read
 pub record BoxTurn (s : List ℕ) (p type body end : ℕ) : Type 0 where
-  pub starts : p + 8 ≤ body
+  pub starts : p + headerBytes ≤ body
   pub whole : body ≤ end
   pub ends : end ≤ length s
   pub read : WasRead (boxMeshes s type body end)
@@ -149,7 +151,7 @@ pub record BoxTurn (s : List ℕ) (p type body end : ℕ) : Type 0 where
   pub is : meshesFrom s p ≡ boxRead s type body end ++ meshesFrom s end
 
 pub box-turn : (s : List ℕ) (p type body end : ℕ) → WasRead (readFrom s p) → headerAt s p ≡ accepted (box type body end) → BoxTurn s p type body end
-box-turn s p type body end r h = let b = header-value s p type body end h in go (omega (arith, b .2)) (omega (arith, b .0 .least, b .2, b .3)) (omega (arith, b .0 .most, b .3)) (ℕ-discrete type meshType)
+box-turn s p type body end r h = let b = header-value s p type body end h in go (omega (arith, body-after s p, b .2)) (omega (arith, b .0 .least, b .2, b .3)) (omega (arith, b .0 .most, b .3)) (ℕ-discrete type meshType)
   where
     both : (v : Found Mesh) (q : Verdict (List Mesh)) → WasRead (andThen v (λ x. andThen q (λ l. accepted (x .0 ∷ l))))
         → WasRead (mapped (λ x. x .0 ∷ []) v) × WasRead q × (valueOr [] (andThen v (λ x. andThen q (λ l. accepted (x .0 ∷ l)))) ≡ valueOr [] (mapped (λ x. x .0 ∷ []) v) ++ valueOr [] q)
@@ -159,7 +161,7 @@ box-turn s p type body end r h = let b = header-value s p type body end h in go 
     both (needs l) q r = absurd r
     both (declined k) q r = absurd r
 
-    go : p + 8 ≤ body → body ≤ end → end ≤ length s → Dec (type ≡ meshType) → BoxTurn s p type body end
+    go : p + headerBytes ≤ body → body ≤ end → end ≤ length s → Dec (type ≡ meshType) → BoxTurn s p type body end
     go a b c (yes y) =
         let e = at-mesh s p type body end h y in
         let i : boxMeshes s type body end ≡ mapped (λ x. x .0 ∷ []) (readMesh (part s body end)) = simp (eq-eqb type meshType y) in

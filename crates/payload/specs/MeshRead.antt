@@ -1,4 +1,5 @@
--- Kind 2 as a program: the reading, of its parts with the bit place after them, or the number of the rule that the first field in payload order breaks.
+-- Kind 2 as a program: the reading, of its parts with the bit place after them, or the number of the rule that the
+-- first field in payload order breaks.
 use Prim.Native.Nat.{ℕ, zero, suc, _+_, _*_}
 use mathlib.Core.List.{List, [], _∷_}
 use mathlib.Core.Bool.{cond}
@@ -16,6 +17,10 @@ use Rattle.payload.specs.MeshSpells.{aligned, verticesAt, part, meshType
 unfoldable pub inRange : {A : Type 0} → ℕ → ℕ → ℕ → Verdict A → Verdict A
 inRange low high n v = cond (leb low n) (cond (leb n high) v (declined 7)) (declined 7)
 
+-- a count that is not 0: 7 where it is
+abbrev pub notZero : {A : Type 0} → ℕ → Verdict A → Verdict A
+notZero n v = cond (eqb n 0) (declined 7) v
+
 -- n things, one after the other
 unfoldable pub many : {A : Type 0} → (ℕ → Found A) → ℕ → ℕ → Found (List A)
 many read zero p = accepted ([], p)
@@ -25,7 +30,8 @@ many read (suc n) p = andThen (read p) (λ x. andThen (many read n (x .1)) (λ l
 
 -- a submesh whose points were found
 abbrev pub submeshOf : List ℕ → ℕ → List ℕ × ℕ → Found Submesh
-submeshOf s p points = accepted (record { texture = field s p 8; mode = field s (p + 8) 8; points = points .0 }, points .1)
+submeshOf s p points =
+    accepted (record { texture = field s p 8; mode = field s (p + 8) 8; points = points .0 }, points .1)
 
 unfoldable pub readSubmesh : List ℕ → ℕ → ℕ → ℕ → Found Submesh
 readSubmesh s w m p =
@@ -37,36 +43,48 @@ readSubmesh s w m p =
 unfoldable pub readSubmeshes : List ℕ → ℕ → ℕ → ℕ → Found (List Submesh)
 readSubmeshes s w m p =
     complete s (p + 32)
-    (inRange 1 4294967295 (field s p 32)
+    (notZero (field s p 32)
     (many (readSubmesh s w m) (field s p 32) (p + 32)))
 
--- ---- a mesh body. Its parts, the last first: after the vertices; after the vertex count; after the coordinate count
+-- ---- a mesh body. Its parts, the last first: after the vertices; after the vertex count; after the pool; after the
+-- coordinate count. The pool has n words, and there are m vertices.
 
--- n words from bit p on
-unfoldable pub readWords : List ℕ → ℕ → ℕ → List ℕ
-readWords s p zero = []
-readWords s p (suc n) = field s p 32 ∷ readWords s (p + 32) n
+-- a word of the pool
+abbrev pub readWord : List ℕ → ℕ → Found ℕ
+readWord s p = complete s (p + 32) (accepted (field s p 32, p + 32))
 
-abbrev pub meshOf : List ℕ → ℕ → List ℕ → List Submesh × ℕ → Found Mesh
-meshOf s n vertices l = accepted (record { pool = readWords s 32 n; vertices = vertices; submeshes = l .0 }, l .1)
+abbrev pub meshOf : List ℕ → List ℕ → List Submesh × ℕ → Found Mesh
+meshOf pool vertices l = accepted (record { pool = pool; vertices = vertices; submeshes = l .0 }, l .1)
 
-unfoldable pub afterVertices : List ℕ → ℕ → ℕ → List ℕ × ℕ → Found Mesh
-afterVertices s n m v = andThen (readSubmeshes s (widthOf m) m (aligned (v .1))) (meshOf s n (v .0))
+unfoldable pub afterVertices : List ℕ → List ℕ → ℕ → List ℕ × ℕ → Found Mesh
+afterVertices s pool m v = andThen (readSubmeshes s (widthOf m) m (aligned (v .1))) (meshOf pool (v .0))
 
-unfoldable pub afterCounts : List ℕ → ℕ → ℕ → Found Mesh
-afterCounts s n m = andThen (readRun s (widthOf n) n (5 * m) (verticesAt n) five) (afterVertices s n m)
+abbrev pub afterVertexCount : List ℕ → ℕ → List ℕ → ℕ → ℕ → Found Mesh
+afterVertexCount s n pool m p = andThen (readRun s (widthOf n) n (5 * m) p five) (afterVertices s pool m)
+
+abbrev pub afterPool : List ℕ → ℕ → List ℕ × ℕ → Found Mesh
+afterPool s n pool =
+    complete s (pool .1 + 32)
+    (inRange 1 32000 (field s (pool .1) 32)
+    (afterVertexCount s n (pool .0) (field s (pool .1) 32) (pool .1 + 32)))
 
 unfoldable pub afterPoolCount : List ℕ → ℕ → Found Mesh
-afterPoolCount s n =
-    complete s (verticesAt n)
-    (inRange 1 32000 (field s (32 * n + 32) 32)
-    (afterCounts s n (field s (32 * n + 32) 32)))
+afterPoolCount s n = andThen (many (readWord s) n 32) (afterPool s n)
 
 unfoldable pub readMesh : List ℕ → Found Mesh
 readMesh s =
     complete s 32
     (inRange 1 10000 (field s 0 32)
     (afterPoolCount s (field s 0 32)))
+
+-- the n words from bit p on, where they are complete
+unfoldable pub readWords : List ℕ → ℕ → ℕ → List ℕ
+readWords s p zero = []
+readWords s p (suc n) = field s p 32 ∷ readWords s (p + 32) n
+
+-- after the vertex count, where the pool is complete
+unfoldable pub afterCounts : List ℕ → ℕ → ℕ → Found Mesh
+afterCounts s n m = afterVertexCount s n (readWords s 32 n) m (verticesAt n)
 
 -- ---- a list of boxes
 

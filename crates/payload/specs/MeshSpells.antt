@@ -60,7 +60,8 @@ submeshesAt x = aligned (verticesEnd x)
 abbrev pub submeshesEnd : Mesh → ℕ
 submeshesEnd x = submeshesAt x + 32 + sizes (submeshBits (widthOf (vertexCount x))) (x .submeshes)
 
--- coordinate count n, n words, vertex count m; m * 5 fields of width w(n); free bits to the next byte boundary, submesh count, submeshes
+-- coordinate count n, n words, vertex count m; m * 5 fields of width w(n); free bits to the next byte boundary, submesh
+-- count, submeshes
 pub record MeshSpells (s : List ℕ) (x : Mesh) : Type 0 where
   pub head : verticesAt (length (x .pool)) ≤ 8 * length s
   pub pool-count : field s 0 32 ≡ length (x .pool)
@@ -71,7 +72,8 @@ pub record MeshSpells (s : List ℕ) (x : Mesh) : Type 0 where
   pub vertex-count : field s (32 * length (x .pool) + 32) 32 ≡ vertexCount x
   pub vertex-some : 1 ≤ vertexCount x
   pub vertex-most : vertexCount x ≤ 32000
-  pub vertices-run : RunSpells s (widthOf (length (x .pool))) (length (x .pool)) (verticesAt (length (x .pool))) five (x .vertices)
+  pub vertices-run : RunSpells s (widthOf (length (x .pool))) (length (x .pool)) (verticesAt (length (x .pool))) five
+      (x .vertices)
   pub tail : submeshesAt x + 32 ≤ 8 * length s
   pub submesh-count : field s (submeshesAt x) 32 ≡ length (x .submeshes)
   pub submesh-some : 1 ≤ length (x .submeshes)
@@ -79,12 +81,22 @@ pub record MeshSpells (s : List ℕ) (x : Mesh) : Type 0 where
 
 -- ---- a list of boxes
 
--- the size of the box at byte p, which counts the whole box, and its type
+-- the bytes that a header has at least: a 4-byte size, which counts the whole box, and a 4-byte type
+abbrev pub headerBytes : ℕ
+headerBytes = 8
+
 abbrev pub sizeAt : List ℕ → ℕ → ℕ
 sizeAt s p = field s (8 * p) 32
 
 abbrev pub typeAt : List ℕ → ℕ → ℕ
 typeAt s p = field s (8 * (p + 4)) 32
+
+-- where the body of the box at byte p begins, and where the box ends, and the next begins
+abbrev pub bodyAt : List ℕ → ℕ → ℕ
+bodyAt s p = p + headerBytes
+
+abbrev pub endAt : List ℕ → ℕ → ℕ
+endAt s p = p + sizeAt s p
 
 -- 'mesh'
 abbrev pub meshType : ℕ
@@ -94,18 +106,20 @@ meshType = 0x6D657368
 abbrev pub part : List ℕ → ℕ → ℕ → List ℕ
 part s from to = take (to - from) (drop from s)
 
--- a whole box: a header of 8 bytes, a size of 8 or more that does not reach past the end
+-- a whole box: a header, and an end that is not before the body and not past the payload's
 pub record WholeBox (s : List ℕ) (p : ℕ) : Type 0 where
-  pub header : p + 8 ≤ length s
-  pub least : 8 ≤ sizeAt s p
-  pub most : p + sizeAt s p ≤ length s
+  pub header : p + headerBytes ≤ length s
+  pub least : bodyAt s p ≤ endAt s p
+  pub most : endAt s p ≤ length s
 
--- from byte p on: 0 to 7 free bytes, a box that holds a mesh, or a box of another type, which may hold anything
+-- from byte p on: free bytes, fewer than a header's; a box that holds a mesh; or a box of another type, which may hold
+-- anything
 pub data BoxesSpell (s : List ℕ) : ℕ → List Mesh → Type 0 where
-  ends : {p : ℕ} → p ≤ length s → length s < p + 8 → BoxesSpell s p []
-  holds : {p : ℕ} {x : Mesh} {l : List Mesh} → WholeBox s p → typeAt s p ≡ meshType → MeshSpells (part s (p + 8) (p + sizeAt s p)) x
-      → BoxesSpell s (p + sizeAt s p) l → BoxesSpell s p (x ∷ l)
-  skips : {p : ℕ} {l : List Mesh} → WholeBox s p → (typeAt s p ≡ meshType → ⊥) → BoxesSpell s (p + sizeAt s p) l → BoxesSpell s p l
+  ends : {p : ℕ} → p ≤ length s → length s < p + headerBytes → BoxesSpell s p []
+  holds : {p : ℕ} {x : Mesh} {l : List Mesh} → WholeBox s p → typeAt s p ≡ meshType
+      → MeshSpells (part s (bodyAt s p) (endAt s p)) x → BoxesSpell s (endAt s p) l → BoxesSpell s p (x ∷ l)
+  skips : {p : ℕ} {l : List Mesh} → WholeBox s p → (typeAt s p ≡ meshType → ⊥) → BoxesSpell s (endAt s p) l
+      → BoxesSpell s p l
 
 -- the list of meshes l spells the payload s
 abbrev pub MeshesSpell : List Mesh → List ℕ → Type 0

@@ -7,7 +7,7 @@ use denote.Ref.{now}
 use Rattle.bits.specs.Header.{headerSays}
 use Rattle.payload.specs.MeshRead.{readFrom}
 use Rattle.payload.proofs.StepLaws.{not-read}
-use Rattle.payload.proofs.MeshReadLaws.{at-declined}
+use Rattle.payload.proofs.BoxReadLaws.{at-declined}
 use Rattle.payload.proofs.TurnLaws.{BoxTurn, box-turn}
 use Rattle.payload.proofs.RecordLaws.{RecordsLeft, records-start, records-end, records-room, records-on-box}
 use borrow.Author.Needs.{needs}

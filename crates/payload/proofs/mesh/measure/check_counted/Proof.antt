@@ -3,7 +3,7 @@ use mathlib.Core.Path.{sym, ap, _∙_}
 use native.Mathlib.Omega.{arith}
 use Rattle.bits.specs.Verdict.{mapped}
 use Rattle.payload.specs.Internal.{submeshesSize}
-use Rattle.payload.proofs.MeshReadLaws.{submeshes-short, submeshes-none, submeshes-on}
+use Rattle.payload.proofs.SubmeshLaws.{submeshes-short, submeshes-none, submeshes-on}
 use borrow.Author.Needs.{needs}
 use Rattle.payload.proofs.mesh.measure.check_counted.Statement.{statement}
 use Rattle.payload.proofs.mesh.measure.check_counted.Tie as tie

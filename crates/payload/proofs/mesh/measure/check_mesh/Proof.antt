@@ -4,7 +4,7 @@ use mathlib.Core.Path.{_≡_, sym, ap, _∙_}
 use native.Mathlib.Omega.{arith}
 use Rattle.bits.specs.Verdict.{mapped}
 use Rattle.payload.specs.Internal.{bodySize}
-use Rattle.payload.proofs.MeshReadLaws.{mesh-short, mesh-low, mesh-high, mesh-on, pool-short, pool-low, pool-high, pool-on}
+use Rattle.payload.proofs.BodyLaws.{mesh-short, mesh-low, mesh-high, mesh-on, pool-short, pool-low, pool-high, pool-on}
 use borrow.Author.Needs.{needs}
 use Rattle.payload.proofs.mesh.measure.check_mesh.Statement.{statement}
 use Rattle.payload.proofs.mesh.measure.check_mesh.Tie as tie
@@ -38,7 +38,7 @@ returns-4 c =
     let a = c .before .before .before .before .before .before .args in
     let n = c .before .before .before .word in
     let on = mesh-on (a .s .now) (n .result) (omega arith) (sym (n .ensures)) (omega arith) (omega arith) in
-    sym (ap (mapped bodySize) (on ∙ pool-short (a .s .now) (n .result) (omega arith)))
+    sym (ap (mapped bodySize) (on ∙ pool-short (a .s .now) (n .result) (omega arith) (omega arith)))
 
 cast-word : tie.Need-cast-word
 cast-word c = search needs

@@ -3,7 +3,7 @@ use mathlib.Core.Path.{sym, ap, _∙_}
 use native.Mathlib.Omega.{arith}
 use Rattle.bits.specs.Verdict.{mapped}
 use Rattle.payload.specs.Internal.{pointsEnd, runSays}
-use Rattle.payload.proofs.MeshReadLaws.{submesh-short, submesh-low, submesh-high}
+use Rattle.payload.proofs.SubmeshLaws.{submesh-short, submesh-low, submesh-high}
 use Rattle.payload.proofs.CheckLaws.{submesh-says}
 use borrow.Author.Needs.{needs}
 use Rattle.payload.proofs.mesh.measure.check_submesh.Statement.{statement}

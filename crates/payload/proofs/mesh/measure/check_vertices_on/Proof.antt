@@ -4,7 +4,7 @@ use mathlib.Core.Path.{sym, ap, _∙_}
 use native.Mathlib.Omega.{arith}
 use lib.ListN.{length}
 use Rattle.payload.specs.Internal.{runSays, submeshesSays}
-use Rattle.payload.proofs.MeshReadLaws.{width-small, width-some}
+use Rattle.payload.proofs.RangeLaws.{width-small, width-some}
 use Rattle.payload.proofs.CheckLaws.{vertices-declined, vertices-end, body-says}
 use borrow.Author.Needs.{needs}
 use Rattle.payload.proofs.mesh.measure.check_vertices_on.Statement.{statement}

@@ -7,7 +7,7 @@ use Rattle.bits.specs.Verdict.{accepted, mapped}
 use Rattle.bits.specs.Header.{box, headerAt, headerSays}
 use Rattle.payload.specs.MeshRead.{readFrom, readMeshes}
 use Rattle.payload.specs.Internal.{noTotals, totalsOf, totalsSays, Room}
-use Rattle.payload.proofs.MeshReadLaws.{at-end, at-declined, header-value}
+use Rattle.payload.proofs.BoxReadLaws.{at-end, at-declined, header-value}
 use Rattle.payload.proofs.MeasureLaws.{room-on, measure-declined, measure-on, measure-room}
 use borrow.Author.Needs.{needs}
 use Rattle.payload.proofs.mesh.measure.measure_list.Statement.{statement}

@@ -1,0 +1,129 @@
+-- The theorems of this crate that crates above may cite: what specs/ states under a name, and laws of the definitions
+-- that theirs are made of. Assumes nothing.
+use Prim.Native.Nat.{ℕ, _+_, _*_, _≤_, _<_}
+use mathlib.Core.Path.{_≡_}
+use mathlib.Core.Bool.{true}
+use mathlib.Core.List.{List, _++_}
+use lib.ListN.{length}
+use lib.Seq.{sets}
+use Rattle.bits.specs.Verdict.{Verdict, accepted, needs, declined, andThen, mapped}
+use Rattle.payload.specs.Payload.{limited}
+use Rattle.payload.specs.Crop.{usable}
+use Rattle.payload.specs.Equi.{cropOf, equiFields, equiUsable}
+use Rattle.payload.specs.Mesh.{Mesh}
+use Rattle.payload.specs.MeshRead.{readMeshes}
+use Rattle.payload.specs.MeshDrawing.{drawnRecords, submeshTotal, pointTotal}
+use Rattle.payload.specs.Laws.{EquiReads, EquiWrites, CbmpReads, CbmpWrites}
+use Rattle.payload.specs.Laws.{MeshesReads, MeshReads, MeshWrites, TablesRead}
+use Rattle.payload.specs.ShareLaws.{ShareLaws}
+use Rattle.payload.specs.CropMarked.{CropMarked}
+use Rattle.payload.specs.SphereMarked.{SphereMarked}
+use Rattle.payload.specs.CubeMarked.{CubeMarked}
+use Rattle.payload.specs.MeshMarked.{MeshMarked}
+use Rattle.payload.specs.declared.equi.EquiFields.{EquiFields}
+use Rattle.payload.proofs.FillLaws as fill
+use Rattle.payload.proofs.PayloadLaws as payload
+use Rattle.payload.proofs.PayloadLaws.{Early}
+use Rattle.payload.proofs.EquiLaws as equi
+use Rattle.payload.proofs.CbmpLaws as cbmp
+use Rattle.payload.proofs.ShareProofs as share
+use Rattle.payload.proofs.CropProofs as crop
+use Rattle.payload.proofs.SphereMarked as sphere
+use Rattle.payload.proofs.CubeMarked as cube
+use Rattle.payload.proofs.MeshProofs as mesh
+use Rattle.payload.proofs.MeshTheorems as meshes
+use Rattle.payload.proofs.MeshWriteProofs as writing
+use Rattle.payload.proofs.MeasureLaws as measure
+use Rattle.payload.proofs.SettledLaws as settled
+
+-- ---- reading and writing, of specs/Laws.antt
+
+pub equi-reads : EquiReads
+equi-reads = equi.equi-reads
+
+pub equi-writes : EquiWrites
+equi-writes = equi.equi-writes
+
+pub cbmp-reads : CbmpReads
+cbmp-reads = cbmp.cbmp-reads
+
+pub cbmp-writes : CbmpWrites
+cbmp-writes = cbmp.cbmp-writes
+
+pub meshes-reads : MeshesReads
+meshes-reads = meshes.meshes-reads
+
+pub mesh-reads : MeshReads
+mesh-reads = meshes.mesh-reads
+
+pub mesh-writes : MeshWrites
+mesh-writes = writing.mesh-writes
+
+pub tables-read : TablesRead
+tables-read = writing.tables-read
+
+-- ---- a cube's padding, of specs/ShareLaws.antt
+
+pub share-laws : ShareLaws
+share-laws = share.share-laws
+
+-- ---- m1 and m4 to m8, of the files in specs/ whose names end with Marked
+
+pub mesh-marked : MeshMarked
+mesh-marked = mesh.mesh-marked
+
+pub crop-marked : CropMarked
+crop-marked = crop.crop-marked
+
+pub sphere-marked : SphereMarked
+sphere-marked = sphere.marked
+
+pub cube-marked : CubeMarked
+cube-marked = cube.cube-marked
+
+-- ---- a payload's limit
+
+module _ {A : Type 0} (s : List ℕ) (v : Verdict A) where
+  pub limited-yes : length s ≤ 67108864 → limited s v ≡ v
+  limited-yes = payload.limited-yes s v
+
+  pub limited-no : 67108864 < length s → limited s v ≡ declined 2
+  limited-no = payload.limited-no s v
+
+module _ {A B : Type 0} (s : List ℕ) where
+  pub limited-then : (v : Verdict A) (f : A → Verdict B) → limited s (andThen v f) ≡ andThen (limited s v) f
+  limited-then = payload.limited-then s
+
+  pub limited-mapped : (f : A → B) (v : Verdict A) → limited s (mapped f v) ≡ mapped f (limited s v)
+  limited-mapped = payload.limited-mapped s
+
+-- what is declined with 4 at most, `Early`, is so within the limit
+pub early-limited : {A : Type 0} (s : List ℕ) (v : Verdict A) → Early v → Early (limited s v)
+early-limited = payload.early-limited
+
+-- ---- kind 0: its fields are declined with 3 or 4, and what a usable crop tells
+
+pub fields-refusal : (s : List ℕ) → Early (equiFields s)
+fields-refusal = equi.fields-refusal
+
+pub usable-read : (ρ ρ′ : EquiFields) → equiUsable ρ ≡ accepted ρ′ → (usable (cropOf ρ) ≡ true) × (ρ ≡ ρ′)
+usable-read = equi.usable-read
+
+-- ---- kind 2: it is read or refused by its bytes alone, and what was read takes its room among them
+
+pub never-needs : (s l : List ℕ) → readMeshes s ≡ needs l → ⊥
+never-needs = settled.never-needs
+
+-- a mesh takes a byte, a coordinate number and a point a bit, and a submesh 48 bits or more
+pub list-fits : (s : List ℕ) (l : List Mesh) → readMeshes s ≡ accepted l
+    → (length l ≤ length s) × (measure.coordinateTotal l + 48 * submeshTotal l + pointTotal l ≤ 8 * length s)
+list-fits = measure.list-fits
+
+pub records-length : (l : List Mesh) → length (drawnRecords l) ≡ 5 * submeshTotal l
+records-length = measure.records-length
+
+-- ---- stores
+
+-- one list after another, from a place on
+pub sets-append : (p q d : List ℕ) (o : ℕ) → sets d o (p ++ q) ≡ sets (sets d o p) (o + length p) q
+sets-append = fill.sets-append
