@@ -14,6 +14,7 @@ pub mod CropProofs
 pub mod SphereMarked
 pub mod CubeMarked
 pub mod FloatLaws
+pub mod NanProofs
 pub mod RunLaws
 pub mod WindowLaws
 pub mod StepLaws
