@@ -21,7 +21,7 @@ use lib.Ieee.Fits.{and-l, and-r, up-pos, down-pos, round-is}
 use lib.Ieee.Bits.{ofBits-toBits, nanBits-is}
 use lib.Ieee.Scale.{finite}
 use borrow.Author.Tests.{lt-ltb, le-ltb, ne-eqb, eq-eqb}
-use Rattle.bits.specs.Float.{nearest}
+use Rattle.bits.specs.Float.{nearest, scaled}
 use Rattle.payload.specs.Float.{f0, f½, f1, ratio, _⊕_, _⊖_, _⊗_, _⊘_}
 
 -- ---- bounds
@@ -325,6 +325,24 @@ over-zero : {x : Float} → Least x → isNan (x ⊘ f0) ≡ false
 unfolding div isNan ofBits
 over-zero (least {m = m} p h) = rw (ne-eqb m 0 (omega arith))
 
+zero-le : (t : Bool) (d : ℤ) → le (fin t 0 d) f0 ≡ true
+unfolding le ofBits
+zero-le true d = simp zero-mul
+zero-le false d = simp zero-mul
+
+-- no NaN, where y is finite and above 0
+pub div-number : (x y : Float) → finite x ≡ true → finite y ≡ true → le y f0 ≡ false → isNan (x ⊘ y) ≡ false
+unfolding div
+div-number nan y f g h = absurd (true≢false (sym f))
+div-number (inf s) y f g h = absurd (true≢false (sym f))
+div-number (fin s m e) nan f g h = absurd (true≢false (sym g))
+div-number (fin s m e) (inf t) f g h = absurd (true≢false (sym g))
+div-number (fin s m e) (fin t zero d) f g h = absurd (true≢false (sym (zero-le t d) ∙ h))
+div-number (fin s m e) (fin t (suc n) d) f g h =
+    let c = suc n * up d * down e in
+    rw (ne-eqb (suc n) 0 (omega arith))
+    (signed-number (unlike s t) _ (round-signed binary32 (unlike s t) (m * up e * down d) c))
+
 -- ---- whole numbers as floats, and the quotient of two
 
 pub whole-within : (N n : ℕ) → Exact N → n ≤ N → Within N (nearest n)
@@ -362,6 +380,11 @@ ratio-upto x n h k l =
     let b = whole-upto n l in
     let r = le-under a b (whole-least n k l) (round-mono binary32 x 1 n 1 (lit≤ tt) (lit≤ tt) (omega arith)) in
     to-upto (div-within (exact 1 (lit≤ tt)) r) (div-signed a b r)
+
+-- x / 2 ^ 32
+pub scaled-upto : (x : ℕ) → x ≤ 2 ^ 32 → Upto 1 (scaled x)
+unfolding ofInt ofBits round
+scaled-upto x h = ratio-upto x (2 ^ 32) h (lit≤ tt) (lit≤ tt)
 
 and-false : (b : Bool) → (b && false) ≡ false
 and-false true = refl

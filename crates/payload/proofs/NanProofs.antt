@@ -1,8 +1,8 @@
 -- Which floats are NaNs: the share of a padding by cases; none in an accepted cube or grid, where all that is computed
--- stays small. Assumes nothing.
-use mathlib.Core.Path.{_≡_, refl, ap, _∙_}
+-- stays small; and no quotient by a float above 0. Assumes nothing.
+use mathlib.Core.Path.{_≡_, refl, sym, ap, _∙_}
 use mathlib.Core.Logic.{_⊎_, inl, inr}
-use mathlib.Core.Bool.{Bool, true, false, _&&_, cond, false≢true}
+use mathlib.Core.Bool.{Bool, true, false, not, _&&_, _||_, cond, false≢true}
 use mathlib.Core.List.{List, [], _∷_, List·Memᴰ, List·Memᴰ·not-nil, List·Memᴰ·cases-cons, List·Memᴰ·append-cases}
 use Prim.Native.Nat.{ℕ, zero, suc, _+_, _*_, _/_, _%_, _≤_, _<_}
 use native.Mathlib.Nat.{eq-or-lt-of-le, mul-comm}
@@ -17,20 +17,22 @@ use Rattle.bits.specs.Verdict.{accepted, declined}
 use Rattle.bits.specs.Float.{bitsOf}
 use Rattle.bits.proofs.VerdictLaws.{tested-value}
 use Rattle.payload.specs.Fill.{each}
-use Rattle.payload.specs.Float.{f0, f½, f1, f2, f3, ratio, _⊕_, _⊖_, _⊗_}
+use Rattle.payload.specs.Float.{f0, f½, f1, f2, f3, ratio, _⊕_, _⊖_, _⊗_, _⊘_}
 use Rattle.payload.specs.Sphere.{gridUsable, gridUv, uvRow, gridUvs, sphereUvs}
 use Rattle.payload.specs.Cube.{cellsUsable, faceTable, centre, right, up, u₀, u₁, v₀, v₁, outward, position}
 use Rattle.payload.specs.Cube.{cubePoint, pointRow, pointFace, cubePoints, shareUsable, cubeFloats}
+use Rattle.payload.specs.View.{minFov, maxFov, defaultFov, clamped, unusable, fovForZoom, zoomForFov}
 use Rattle.payload.specs.NanLaws.{Number, NanLaws}
 use Rattle.payload.proofs.FloatLaws.{Within, within, within-finite, within-number, weight, weight-within, exact}
 use Rattle.payload.proofs.FloatLaws.{Upto, upto, upto-within, upto-ge, upto-le, Least, least, by-least, pattern}
 use Rattle.payload.proofs.FloatLaws.{add-within, sub-within, mul-within, div-within, whole-within, half-within}
-use Rattle.payload.proofs.FloatLaws.{from-one, to-one, mul-upto, mul-number, mul-finite, ratio-upto, ratio-nan}
+use Rattle.payload.proofs.FloatLaws.{from-one, to-one, mul-upto, ratio-upto, scaled-upto}
+use Rattle.payload.proofs.FloatLaws.{mul-number, mul-finite, div-number, ratio-nan}
 
 -- ---- the elements of a list made piece by piece
 
 -- all elements are such
-abbrev All : (ℕ → Type 0) → List ℕ → Type 0
+abbrev pub All : (ℕ → Type 0) → List ℕ → Type 0
 All P l = (b : ℕ) → List·Memᴰ b l → P b
 
 module _ (P : ℕ → Type 0) where
@@ -211,6 +213,36 @@ cube-places cells radius share ec er es =
     (cons-all P (place radius _ (add-fits binary32 _ _) (within-number u) (λ r. within-finite u))
     (cons-all P (place radius _ (add-fits binary32 _ _) (within-number v) (λ r. within-finite v)) (nil-all P))))))))
 
+-- ---- zoom and field of view
+
+usable-not : (x : Float) → unusable x ≡ false → (finite x ≡ true) × (le x f0 ≡ false)
+usable-not x e = go (finite x) (le x f0) e
+  where
+    go : (a b : Bool) → (not a || b) ≡ false → (a ≡ true) × (b ≡ false)
+    go true b e = (refl, e)
+    go false b e = absurd (false≢true (sym e))
+
+-- a choice of two floats, the second where the test fails
+choice : (b : Bool) (x y : Float) → isNan x ≡ false → (b ≡ false → isNan y ≡ false) → isNan (cond b x y) ≡ false
+choice true x y h k = h
+choice false x y h k = k refl
+
+module _ (x : Float) where
+  by-usable : unusable x ≡ false → isNan (defaultFov ⊘ x) ≡ false
+  by-usable e = let u = usable-not x e in div-number defaultFov x (unfold ofBits in refl) (u .0) (u .1)
+
+  fov-number : isNan (fovForZoom x) ≡ false
+  unfolding fovForZoom
+  fov-number =
+      let q = defaultFov ⊘ x in
+      choice (unusable x) defaultFov (clamped q minFov maxFov) (unfold isNan ofBits in refl) (λ e.
+      choice (lt q minFov) minFov (cond (lt maxFov q) maxFov q) (unfold isNan ofBits in refl) (λ _.
+      choice (lt maxFov q) maxFov q (unfold isNan ofBits in refl) (λ _. by-usable e)))
+
+  zoom-number : isNan (zoomForFov x) ≡ false
+  unfolding zoomForFov
+  zoom-number = choice (unusable x) f1 (defaultFov ⊘ x) (unfold isNan ofBits in refl) by-usable
+
 -- ---- the calls
 
 pub points-accepted : (cells : ℕ) (radius share : Float) (l : List ℕ) → cubeFloats cells radius share ≡ accepted l
@@ -252,4 +284,7 @@ nan-laws =
       points-finite = λ cells radius part l b f e m. cube-accepted cells radius part l e b m .1 (rw f tt);
       uvs = λ rings sectors l b e m. grid-accepted rings sectors l e b m .0;
       uvs-between = λ rings sectors l b e m. let g = grid-accepted rings sectors l e b m in (g .1, g .2);
+      side = λ v h. within-number (upto-within (scaled-upto v (omega arith)));
+      fov = fov-number;
+      zoom = zoom-number;
     }

@@ -1,4 +1,4 @@
--- Which floats are NaNs: the share of a padding of 0 in a face of width 0, and none in an accepted cube or grid.
+-- Which floats are NaNs: of those that arithmetic makes, only the share of a padding of 0 in a face of width 0.
 -- The proof is in proofs/NanProofs.antt.
 use Prim.Native.Nat.{ℕ, _^_, _<_}
 use mathlib.Core.Path.{_≡_}
@@ -8,10 +8,11 @@ use lib.Dec.{eqb}
 use lib.Ieee.{Float, binary32, ofBits, isNan, nanBits, le, fits}
 use lib.Ieee.Scale.{finite}
 use Rattle.bits.specs.Verdict.{accepted}
-use Rattle.bits.specs.Float.{bitsOf}
+use Rattle.bits.specs.Float.{scaled, bitsOf}
 use Rattle.payload.specs.Float.{f0, f1, ratio}
 use Rattle.payload.specs.Sphere.{sphereUvs}
 use Rattle.payload.specs.Cube.{cubeFloats}
+use Rattle.payload.specs.View.{fovForZoom, zoomForFov}
 
 -- b is the bit pattern of a float, and the float is no NaN
 pub record Number (b : ℕ) : Type 0 where
@@ -33,3 +34,8 @@ pub record NanLaws : Type 0 where
   -- each lies between 0 and 1
   pub uvs-between : (rings sectors : ℕ) (l : List ℕ) (b : ℕ) → sphereUvs rings sectors ≡ accepted l → List·Memᴰ b l
       → (le f0 (ofBits binary32 b) ≡ true) × (le (ofBits binary32 b) f1 ≡ true)
+  -- no side of a crop is a NaN, whatever its field
+  pub side : (v : ℕ) → v < 2 ^ 32 → isNan (scaled v) ≡ false
+  -- nor a field of view or a zoom, whatever it is made of
+  pub fov : (zoom : Float) → isNan (fovForZoom zoom) ≡ false
+  pub zoom : (fov : Float) → isNan (zoomForFov fov) ≡ false
