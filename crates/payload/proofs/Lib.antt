@@ -13,6 +13,8 @@ pub mod ViewLaws
 pub mod CropProofs
 pub mod SphereMarked
 pub mod CubeMarked
+pub mod FloatLaws
+pub mod NanProofs
 pub mod RunLaws
 pub mod WindowLaws
 pub mod StepLaws

@@ -15,6 +15,7 @@ pub mod ShareLaws
 pub mod CropMarked
 pub mod SphereMarked
 pub mod CubeMarked
+pub mod NanLaws
 pub mod Mesh
 pub mod Run
 pub mod MeshSpells
