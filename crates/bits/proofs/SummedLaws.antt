@@ -3,12 +3,13 @@ use Prim.Native.Nat.{ℕ, zero, suc, _+_, _-_, _*_, _≤_, _<_}
 use mathlib.Core.Path.{_≡_, refl, sym, ap, _∙_}
 use mathlib.Core.List.{List, [], _∷_, _++_}
 use native.Mathlib.Omega.{arith}
+use native.Mathlib.Nat.{le-of-suc-le-suc}
 use lib.ListN.{length, getD}
 use lib.Seq.{sets}
 use Rattle.bits.specs.Verdict.{accepted}
 use Rattle.bits.specs.Field.{field}
 use Rattle.bits.specs.Number.{steppedTo}
-use Rattle.bits.specs.Run.{shift, readRun, low16, summed}
+use Rattle.bits.specs.Run.{shift, readRun, lastOf, low16, summed}
 use Rattle.bits.specs.Inside.{five, MovedBy, fiveLow}
 use Rattle.bits.specs.declared.fields.runs.Five.{Five}
 use Rattle.bits.specs.declared.fields.runs.Moved.{Moved}
@@ -84,7 +85,65 @@ module _ (s : List ℕ) (w : ℕ) where
       ∙ ap (λ (l : List ℕ). f .next ∷ l) (read-summed limit n (p + w) (shift prior (f .next)) (f .tail) q h (f .rest))
       ∙ sym (f .cons)
 
--- what a loop knows that stores the numbers of a run: storing those that are left gives what storing all at first gives
+-- ---- a run of one running number in two parts
+
+pub record RunPart (s : List ℕ) (w limit left p x n : ℕ) (ns : List ℕ) (q : ℕ) : Type 0 where
+  pub others : List ℕ
+  pub are : ns ≡ summed s w n p (x ∷ []) ++ others
+  pub rest : readRun s w limit (left - n) (p + n * w) (lastOf x (summed s w n p (x ∷ [])) ∷ []) ≡ accepted (others, q)
+  pub below : (i : ℕ) → i < n → getD (summed s w n p (x ∷ [])) i 0 < limit
+  pub room : p ≤ 8 * length s → p + n * w ≤ 8 * length s
+
+pub run-part : (s : List ℕ) (w limit : ℕ) → limit ≤ 65536 → (n left p x : ℕ) (ns : List ℕ) (q : ℕ) → n ≤ left
+    → readRun s w limit left p (x ∷ []) ≡ accepted (ns, q) → RunPart s w limit left p x n ns q
+run-part s w limit h zero left p x ns q o e =
+    let z : left - 0 ≡ left = omega arith in
+    let y : p + 0 * w ≡ p = omega arith in
+    let v = summed-none s w 0 p (x ∷ []) (omega arith) in
+    record {
+      others = ns;
+      are = ap (λ (l : List ℕ). l ++ ns) (sym v);
+      rest = rw (z, y, v) e;
+      below = λ i l. absurd (omega arith);
+      room = λ l. omega arith;
+    }
+run-part s w limit h (suc n) zero p x ns q o e = absurd (omega arith)
+run-part s w limit h (suc n) (suc left) p x ns q o e =
+    let f = run-first s w limit left p (x ∷ []) ns q e in
+    let m = ran-moves x (field s p w) limit (f .next) (f .ran) in
+    let k : f .next < limit = m .1 in
+    let i : low16 (f .next) ≡ f .next = omega arith in
+    let g : f .next ≡ low16 (steppedTo x (field s p w)) = sym (ap low16 (moves-stepped x (field s p w) (f .next) (m .0)) ∙ i) in
+    let r = run-part s w limit h n left (p + w) (f .next) (f .tail) q (omega arith) (f .rest) in
+    let z : suc left - suc n ≡ left - n = omega arith in
+    let y : p + suc n * w ≡ p + w + n * w = omega arith in
+    let v : suc n - 1 ≡ n = omega arith in
+    let t = summed s w n (p + w) (f .next ∷ []) in
+    let u : summed s w (suc n) p (x ∷ []) ≡ f .next ∷ t = summed-one s w (suc n) p x [] (f .next) (omega arith) g ∙ rw v in
+    record {
+      others = r .others;
+      are = f .cons ∙ ap (λ (l : List ℕ). f .next ∷ l) (r .are) ∙ ap (λ (l : List ℕ). l ++ r .others) (sym u);
+      rest = rw (z, y) (ap (λ (l : List ℕ). readRun s w limit (left - n) (p + w + n * w) (lastOf x l ∷ [])) u ∙ r .rest);
+      below = λ j l. rw u (below (f .next) limit t k (r .below) j l);
+      room = λ l. omega (arith, f .room, r .room (f .room));
+    }
+  where
+    below : (a limit : ℕ) (t : List ℕ) → a < limit → ((j : ℕ) → j < n → getD t j 0 < limit) → (j : ℕ) → j < suc n → getD (a ∷ t) j 0 < limit
+    below a limit t h u zero l = h
+    below a limit t h u (suc j) l = u j (le-of-suc-le-suc l)
+
+-- the last of them, by its place
+pub last-at : (x : ℕ) (l : List ℕ) (n : ℕ) → length l ≡ n → 1 ≤ n → lastOf x l ≡ getD l (n - 1) 0
+last-at x [] n e o = absurd (omega arith)
+last-at x (y ∷ []) n e o = let z : n - 1 ≡ 0 = omega arith in rw z
+last-at x (y ∷ z ∷ l) n e o =
+    let i : n - 1 ≡ suc (length l) = omega arith in
+    let k : length l + 1 - 1 ≡ length l = omega arith in
+    last-at y (z ∷ l) (length l + 1) (omega arith) (omega arith) ∙ rw (i, k)
+
+-- ---- a loop that stores the numbers
+
+-- what it knows: storing those that are left gives what storing all at first gives
 pub record Storing (s : List ℕ) (w : ℕ) (out₀ all out : List ℕ) (n at bit : ℕ) (prior : List ℕ) : Type 0 where
   pub same : sets out₀ 0 all ≡ sets out at (summed s w (n - at) bit prior)
   pub long : length out ≡ length out₀

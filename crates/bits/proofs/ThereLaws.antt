@@ -51,6 +51,9 @@ module _ (s : List ℕ) (p w n : ℕ) where
             go (inl k) = le-leb (n * w) (e - p) k ∙ sym (le-leb (p + n * w) (8 * length s) (omega arith))
             go (inr k) = lt-leb (n * w) (e - p) k ∙ sym (lt-leb (p + n * w) (8 * length s) (omega arith))
 
+  pub there-yes : length s ≤ 67108864 → 1 ≤ w → w ≤ 16 → 33 ≤ p → p + n * w ≤ 8 * length s → runThere s p w n ≡ true
+  there-yes a b c d e = sym (there-is a b c d) ∙ le-leb (p + n * w) (8 * length s) e
+
   -- what it tells
   pub there-inside : runThere s p w n ≡ true → Inside s p (n * w) × (1 ≤ w) × (w ≤ 16)
   unfolding runThere

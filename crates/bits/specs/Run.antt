@@ -76,6 +76,11 @@ summed s w (suc n) p prior =
     low16 (steppedTo (getD prior 0 0) (field s p w))
     ∷ summed s w n (p + w) (shift prior (low16 (steppedTo (getD prior 0 0) (field s p w))))
 
+-- the last of some numbers, and x where there are none
+abbrev pub lastOf : ℕ → List ℕ → ℕ
+lastOf x [] = x
+lastOf x (y ∷ l) = lastOf y l
+
 -- n fields of a width of at most 16 from bit p on lie inside a body of at most 67,108,864 bytes, and not in its first four bytes
 unfoldable pub runThere : List ℕ → ℕ → ℕ → ℕ → Bool
 runThere s p w n =

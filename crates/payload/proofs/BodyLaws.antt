@@ -9,11 +9,11 @@ use Rattle.bits.specs.Field.{field}
 use Rattle.bits.specs.Number.{widthOf}
 use Rattle.bits.proofs.VerdictLaws.{then-yes, then-no, then-value}
 use Rattle.payload.specs.Mesh.{Submesh, Mesh}
-use Rattle.payload.specs.Run.{Found, complete, readRun, five}
+use Rattle.bits.specs.Run.{zeros, Found, complete, readRun}
 use Rattle.payload.specs.MeshSpells.{aligned, verticesAt}
 use Rattle.payload.specs.MeshRead.{inRange, readSubmeshes, readWords, meshOf, afterVertices, afterVertexCount}
 use Rattle.payload.specs.MeshRead.{afterPool, afterPoolCount, afterCounts, readMesh}
-use Rattle.payload.proofs.RunLaws.{complete-yes, complete-no}
+use Rattle.bits.proofs.RunLaws.{complete-yes, complete-no}
 use Rattle.payload.proofs.RangeLaws.{inrange-low, inrange-high, inrange-yes, complete-then, complete-sooner}
 use Rattle.payload.proofs.RangeLaws.{found-same, words-read}
 
@@ -78,7 +78,7 @@ module _ (s : List ℕ) (n : ℕ) where
 
 -- the vertices' fields
 abbrev pub vertexRun : List ℕ → ℕ → ℕ → Found (List ℕ)
-vertexRun s n m = readRun s (widthOf n) n (5 * m) (verticesAt n) five
+vertexRun s n m = readRun s (widthOf n) n (5 * m) (verticesAt n) (zeros 5)
 
 -- the vertices' fields end at bit q, and the submeshes at bit t
 pub record CountsParts (s : List ℕ) (n m : ℕ) (x : Mesh) (t : ℕ) : Type 0 where

@@ -21,7 +21,7 @@ use Rattle.payload.specs.MeshSpells.{holds, meshType, part, sizeAt, size
 use Rattle.payload.specs.MeshSpells.{submeshesEnd, typeAt, vertexCount, verticesEnd}
 use Rattle.payload.specs.MeshWrite.{boxSize, gap, meshBody, meshBox, meshFields, runFields, submeshesFields, vertexFields, wordFields}
 use Rattle.payload.specs.Packed.{Field, Fits, Laid, bits, spare}
-use Rattle.payload.specs.Run.{five}
+use Rattle.bits.specs.Run.{zeros}
 use Rattle.payload.proofs.MeshWriteLaws.{Within, mesh-bits, run-fit, run-in, run-out, submeshes-fit, submeshes-in, submeshes-out, vertex-bits, words-bits, words-fit, words-in, words-out}
 use Rattle.payload.proofs.PackedLaws.{fits-append, laid-append, laid-left, laid-packed, laid-right, packed-laid, packed-length}
 
@@ -35,7 +35,7 @@ abbrev tailFields : Mesh → List Field
 tailFields x = gap (bits (vertexFields x)) ∷ (32, length (x .submeshes)) ∷ submeshesFields (widthOf (vertexCount x)) (x .submeshes)
 
 abbrev runOf : Mesh → List Field
-runOf x = (32, vertexCount x) ∷ runFields (widthOf (length (x .pool))) five (x .vertices)
+runOf x = (32, vertexCount x) ∷ runFields (widthOf (length (x .pool))) (zeros 5) (x .vertices)
 
 pub mesh-fit : (x : Mesh) → Within x → Fits (meshFields x)
 unfolding meshFields vertexFields
@@ -47,7 +47,7 @@ mesh-fit x h =
     fits-append (vertexFields x) (tailFields x) (
       omega (arith, h .pool-most),
       fits-append (wordFields (x .pool)) (runOf x) (words-fit (x .pool) (h .words))
-          (omega (arith, h .vertex-most), run-fit (widthOf n) n five (x .vertices) (width-enough n) (omega arith) (o, (o, (o, (o, (o, tt))))) (h .vertices)),
+          (omega (arith, h .vertex-most), run-fit (widthOf n) n (zeros 5) (x .vertices) (width-enough n) (omega arith) (o, (o, (o, (o, (o, tt))))) (h .vertices)),
     )
     (pow-pos _, (k, submeshes-fit (widthOf m) m (width-enough m) (h .vertex-some) (x .submeshes) (h .submeshes)))
 
@@ -73,8 +73,8 @@ mesh-in s x h r f =
       vertex-some = h .vertex-some;
       vertex-most = h .vertex-most;
       vertices-run =
-          run-in s (widthOf n) n (32 * n + 64) five (x .vertices) (omega arith) (h .vertices) (omega arith)
-          (subst (λ (q : ℕ). Laid s q (runFields (widthOf n) five (x .vertices))) (omega (arith, words-bits (x .pool))) (u .1));
+          run-in s (widthOf n) n (32 * n + 64) (zeros 5) (x .vertices) (omega arith) (h .vertices) (omega arith)
+          (subst (λ (q : ℕ). Laid s q (runFields (widthOf n) (zeros 5) (x .vertices))) (omega (arith, words-bits (x .pool))) (u .1));
       tail = omega arith;
       submesh-count = ap (λ (q : ℕ). field s q 32) (sym e) ∙ t .1 .0;
       submesh-some = h .submesh-some;
@@ -93,7 +93,7 @@ mesh-out s x e z =
       laid-append s (0 + 32) (wordFields (x .pool)) (runOf x)
           (subst (λ (q : ℕ). Laid s q (wordFields (x .pool))) (omega arith) (words-out s 32 (x .pool) (e .pool-words))) (
             ap (λ (q : ℕ). field s q 32) (omega (arith, words-bits (x .pool))) ∙ e .vertex-count,
-            subst (λ (q : ℕ). Laid s q (runFields (widthOf n) five (x .vertices))) (omega (arith, words-bits (x .pool))) (run-out s (widthOf n) n (32 * n + 64) five (x .vertices) (omega arith) (e .vertices-run)),
+            subst (λ (q : ℕ). Laid s q (runFields (widthOf n) (zeros 5) (x .vertices))) (omega (arith, words-bits (x .pool))) (run-out s (widthOf n) n (32 * n + 64) (zeros 5) (x .vertices) (omega arith) (e .vertices-run)),
           ),
     ) (
       ap₂ (λ (q k : ℕ). field s q k) g (omega (arith, vertex-bits x)) ∙ z,

@@ -1,5 +1,5 @@
 -- The filling pass stores a mesh list's drawing piece by piece: the words of points, of submeshes and of meshes, and the whole in three buffers. Assumes nothing.
-use Prim.Native.Nat.{ℕ, suc, _+_, _-_, _*_, _≤_, _<_}
+use Prim.Native.Nat.{ℕ, zero, suc, _+_, _-_, _*_, _≤_, _<_}
 use mathlib.Core.Path.{_≡_, refl, sym, ap, ap₂, _∙_}
 use mathlib.Core.List.{List, [], _∷_, _++_, append-assoc, append-nil}
 use mathlib.Core.Bool.{true, false}
@@ -13,18 +13,20 @@ use Rattle.bits.specs.Number.{widthOf}
 use Rattle.bits.specs.Header.{listEnd, headerAt}
 use Rattle.payload.specs.Payload.{limited}
 use Rattle.payload.specs.Mesh.{Submesh, Mesh}
-use Rattle.payload.specs.Run.{readRun, one, five}
+use Rattle.bits.specs.Run.{zeros, Found, readRun, lastOf, summed}
+use Rattle.bits.proofs.RunLaws.{run-spells}
+use Rattle.bits.proofs.SummedLaws.{length-summed, run-part, last-at}
 use Rattle.payload.specs.MeshSpells.{submeshBits, SubmeshesSpell, aligned, verticesAt, meshType}
 use Rattle.payload.specs.MeshRead.{many, readSubmesh, readWords, readMesh, readFrom, readMeshes}
 use Rattle.payload.specs.MeshDrawing.{pointWords, runWords, submeshWords, coordinate, meshWords, pointCount, drawnNumbers, drawnFloats, drawnRecords}
 use Rattle.payload.specs.Meshes.{listSize, fitsIn, drawnAnswer, drawnInto, meshesAnswer}
-use Rattle.payload.specs.Internal.{WasRead, valueOr, runNumbers, wordAt, Pooled, submeshesRead, meshRead, boxRead, meshesFrom, HeadOf, FillRoom, afterMeshes}
+use Rattle.payload.specs.Internal.{WasRead, valueOr, runNumbers, wordAt, Pooled, PointsBelow, submeshesRead, meshRead, boxRead, meshesFrom, HeadOf, FillRoom, afterMeshes}
 use Rattle.payload.specs.declared.mesh.Head.{Head}
 use Rattle.payload.specs.declared.mesh.draw.Place.{Place}
 use Rattle.payload.specs.declared.mesh.measure.MeshListSize.{MeshListSize}
 use Rattle.payload.proofs.FillLaws.{sets-append, sets-after, getD-sets, sets-front}
 use Rattle.payload.proofs.StepLaws.{read-value}
-use Rattle.payload.proofs.RangeLaws.{width-small, words-at}
+use Rattle.payload.proofs.RangeLaws.{width-small, width-some, words-at}
 use Rattle.payload.proofs.MeshReadLaws.{MeshParts, mesh-parts, parts-vertices, parts-submeshes}
 use Rattle.payload.proofs.MeasureLaws.{run-floats, submesh-floats}
 use Rattle.payload.proofs.TurnLaws.{SubmeshTurn, turn-stored, mesh-is, box-skipped, BoxTurn, list-end, Listed, not-listed, listed-lengths}
@@ -48,32 +50,18 @@ module _ (f : ℕ → ℕ) (base : ℕ) where
   unfolding runWords
   point-first v l m d o e = rw e (sets-after (pointWords f (base + 5 * v)) (runWords f base m) d o (o + 5) refl)
 
-  -- three points' words, one after the other
-  pub three-points : (a b c : ℕ) (d : List ℕ) (o : ℕ)
-      → sets (sets (sets d o (pointWords f (base + 5 * a))) (o + 5) (pointWords f (base + 5 * b))) (o + 10) (pointWords f (base + 5 * c)) ≡ sets d o (runWords f base (a ∷ b ∷ c ∷ []))
+  -- the words of two runs, one after the other
+  pub run-append : (l m : List ℕ) → runWords f base (l ++ m) ≡ runWords f base l ++ runWords f base m
   unfolding runWords
-  three-points a b c d o =
-      let x = sets d o (pointWords f (base + 5 * a)) in
-      let y = sets x (o + 5) (pointWords f (base + 5 * b)) in
-      let e : o + 5 + 5 ≡ o + 10 = omega arith in
-      sym
-      (point-first a (a ∷ b ∷ c ∷ []) (b ∷ c ∷ []) d o refl
-      ∙ point-first b (b ∷ c ∷ []) (c ∷ []) x (o + 5) refl
-      ∙ point-first c (c ∷ []) [] y (o + 5 + 5) refl
-      ∙ ap (λ (k : ℕ). sets y k (pointWords f (base + 5 * c))) e)
+  run-append [] m = refl
+  run-append (v ∷ l) m =
+      ap (λ (t : List ℕ). pointWords f (base + 5 * v) ++ t) (run-append l m)
+      ∙ sym (append-assoc (pointWords f (base + 5 * v)) (runWords f base l) (runWords f base m))
 
-  -- the first three points' words are stored, and the others' are left
-  pub three-first : (a b c : ℕ) (l m d : List ℕ) (o : ℕ) → l ≡ a ∷ b ∷ c ∷ m
-      → sets d o (runWords f base l) ≡ sets (sets d o (runWords f base (a ∷ b ∷ c ∷ []))) (o + 15) (runWords f base m)
-  three-first a b c l m d o e =
-      let x = sets d o (pointWords f (base + 5 * a)) in
-      let y = sets x (o + 5) (pointWords f (base + 5 * b)) in
-      let z : o + 5 + 5 ≡ o + 10 = omega arith in
-      let u : o + 10 + 5 ≡ o + 15 = omega arith in
-      point-first a l (b ∷ c ∷ m) d o e
-      ∙ point-first b (b ∷ c ∷ m) (c ∷ m) x (o + 5) refl
-      ∙ point-first c (c ∷ m) m y (o + 5 + 5) refl
-      ∙ rw (z, u) (ap (λ (k : List ℕ). sets k (o + 15) (runWords f base m)) (three-points a b c d o))
+  -- the words of the first n points are stored, and the others' are left
+  pub run-first : (l m d : List ℕ) (o n : ℕ) → length l ≡ n → sets d o (runWords f base (l ++ m)) ≡ sets (sets d o (runWords f base l)) (o + 5 * n) (runWords f base m)
+  run-first l m d o n e =
+      ap (sets d o) (run-append l m) ∙ sets-after (runWords f base l) (runWords f base m) d o (o + 5 * n) (ap (λ (k : ℕ). o + k) (run-floats f base l ∙ ap (λ (k : ℕ). 5 * k) e))
 
 -- what a loop that stores a run's words keeps: storing the words of the points that are left gives `all`
 pub record RunLeft (s : List ℕ) (w m : ℕ) (numbers : List ℕ) (base : ℕ) (words₀ all words : List ℕ) (bit last left o : ℕ) : Type 0 where
@@ -84,6 +72,52 @@ pub record RunLeft (s : List ℕ) (w m : ℕ) (numbers : List ℕ) (base : ℕ) 
   pub small : last < 65536
   pub low : 64 ≤ bit
 
+-- the next n points
+pub record NextPoints (s : List ℕ) (w m left bit last n : ℕ) : Type 0 where
+  pub below : PointsBelow m (summed s w n bit (last ∷ []))
+  pub whole : bit + n * w ≤ 8 * length s
+  pub are : runNumbers (readRun s w m left bit (last ∷ []))
+      ≡ summed s w n bit (last ∷ []) ++ runNumbers (readRun s w m (left - n) (bit + n * w) (lastOf last (summed s w n bit (last ∷ [])) ∷ []))
+  pub rest : WasRead (readRun s w m (left - n) (bit + n * w) (lastOf last (summed s w n bit (last ∷ [])) ∷ []))
+  pub small : lastOf last (summed s w n bit (last ∷ [])) < m
+
+pub next-points : (s : List ℕ) (w m left bit last n : ℕ) → m ≤ 65536 → 1 ≤ n → n ≤ left → WasRead (readRun s w m left bit (last ∷ [])) → NextPoints s w m left bit last n
+next-points s w m left bit last n h o l r =
+    let v = read-value (readRun s w m left bit (last ∷ [])) r in
+    let P = run-part s w m h n left bit last (v .0 .0) (v .0 .1) l (v .1) in
+    let z = length-summed s w n bit (last ∷ []) in
+    let F = run-spells s w m left bit (last ∷ []) (v .0 .0) (v .0 .1) (omega arith) (v .1) in
+    record {
+      below = λ i k. P .below i (rw z at k);
+      whole = P .room (omega (arith, F .0 .whole 0 (omega (arith, F .1))));
+      are = ap runNumbers (v .1) ∙ P .are ∙ ap (λ (x : Found (List ℕ)). summed s w n bit (last ∷ []) ++ runNumbers x) (sym (P .rest));
+      rest = rw (P .rest) tt;
+      small = rw (last-at last (summed s w n bit (last ∷ [])) n z o) (P .below (n - 1) (omega arith));
+    }
+
+-- no field is left
+pub numbers-end : (s : List ℕ) (w limit n p : ℕ) (prior : List ℕ) → n ≤ 0 → runNumbers (readRun s w limit n p prior) ≡ []
+unfolding readRun
+numbers-end s w limit zero p prior h = refl
+numbers-end s w limit (suc n) p prior h = absurd (omega arith)
+
+pub run-left-on : {s : List ℕ} {w m : ℕ} {numbers : List ℕ} {base : ℕ} {words₀ all words : List ℕ} {bit last left o : ℕ} → RunLeft s w m numbers base words₀ all words bit last left o
+    → (n last′ bit′ : ℕ) (words′ : List ℕ) → m ≤ 65536 → n ≤ left → NextPoints s w m left bit last n → last′ ≡ lastOf last (summed s w n bit (last ∷ [])) → bit′ ≡ bit + n * w
+    → words′ ≡ sets words o (runWords (wordAt s numbers) base (summed s w n bit (last ∷ []))) → length words′ ≡ length words
+    → RunLeft s w m numbers base words₀ all words′ bit′ last′ (left - n) (o + 5 * n)
+run-left-on {s} {w} {m} {numbers} {base} {words₀} {all} {words} {bit} {last} {left} {o} L n last′ bit′ words′ h l N e eb d g =
+    let f = wordAt s numbers in
+    let t = summed s w n bit (last ∷ []) in
+    rw (e, eb)
+    (record {
+      same = L .same ∙ ap (λ (x : List ℕ). sets words o (runWords f base x)) (N .are) ∙ run-first f base t _ words o n (length-summed s w n bit (last ∷ [])) ∙ rw (← d);
+      read = N .rest;
+      room = omega (arith, L .room);
+      long = g ∙ L .long;
+      small = omega (arith, N .small);
+      low = omega (arith, L .low);
+    })
+
 -- ---- submeshes
 
 module _ (f : ℕ → ℕ) (base : ℕ) where
@@ -93,7 +127,7 @@ module _ (f : ℕ → ℕ) (base : ℕ) where
 
 -- the words of a submesh were stored, and the others' are left
 pub submesh-drawn : (f : ℕ → ℕ) (base : ℕ) (s : List ℕ) (w m left bit k : ℕ) (x : Submesh) (d d′ : List ℕ) (o : ℕ) → SubmeshTurn s w m left bit k x
-    → d′ ≡ sets d o (runWords f base (runNumbers (readRun s w m k (bit + 48) one)))
+    → d′ ≡ sets d o (runWords f base (runNumbers (readRun s w m k (bit + 48) (zeros 1))))
     → sets d o (submeshWords f base (submeshesRead (many (readSubmesh s w m) left bit)))
     ≡ sets d′ (o + 5 * k) (submeshWords f base (submeshesRead (many (readSubmesh s w m) (left - 1) (bit + (48 + k * w)))))
 unfolding submeshWords
@@ -161,9 +195,12 @@ pub record MeshKnown (s : List ℕ) (n m w k first : ℕ) : Type 0 where
   pub head : verticesAt n ≤ 8 * length s
   pub n-most : n ≤ 10000
   pub m-most : m ≤ 32000
+  pub n-some : 1 ≤ n
+  pub m-some : 1 ≤ m
   pub narrow : w ≤ 16
-  pub run : WasRead (readRun s w n (5 * m) (verticesAt n) five)
-  pub vertices : runNumbers (readRun s w n (5 * m) (verticesAt n) five) ≡ meshRead s .vertices
+  pub wide : 1 ≤ w
+  pub run : WasRead (readRun s w n (5 * m) (verticesAt n) (zeros 5))
+  pub vertices : runNumbers (readRun s w n (5 * m) (verticesAt n) (zeros 5)) ≡ meshRead s .vertices
   pub fives : length (meshRead s .vertices) ≡ 5 * m
   pub low : 64 ≤ first
   pub tail : first ≤ 8 * length s
@@ -186,7 +223,10 @@ parts-known s x t e P =
       head = P .head;
       n-most = P .n-most;
       m-most = P .m-most;
+      n-some = P .n-some;
+      m-some = P .m-some;
       narrow = width-small (P .n) (omega (arith, P .n-most));
+      wide = width-some (P .n) (P .n-some);
       run = rw (P .run) tt;
       vertices = rw (P .run, z);
       fives = rw z (v .1);
@@ -247,7 +287,7 @@ module _ {s : List ℕ} {n m w k first : ℕ} (K : MeshKnown s n m w k first) wh
       → _≡_ {A = Place} (record { base = to .base + 5 * m; off = o }) (afterMeshes to (meshRead s ∷ []))
   mesh-placed to o e = rw (e, numbers-long, floats-long)
 
-  module _ (d d′ : List ℕ) (base : ℕ) (e : d′ ≡ sets d base (runNumbers (readRun s w n (5 * m) (verticesAt n) five))) where
+  module _ (d d′ : List ℕ) (base : ℕ) (e : d′ ≡ sets d base (runNumbers (readRun s w n (5 * m) (verticesAt n) (zeros 5)))) where
     is-stored : d′ ≡ sets d base (meshRead s .vertices)
     is-stored = e ∙ rw (K .vertices)
 

@@ -4,12 +4,12 @@ use mathlib.Core.Path.{_≡_, refl, sym, ap, ap₂, _∙_}
 use mathlib.Core.List.{List, [], _∷_, _++_}
 use native.Mathlib.Omega.{arith}
 use lib.ListN.{length, take, drop, set, getD}
-use lib.Seq.{sets, sets-eq, length-sets, take-set-le, drop-set-lt, getD-set-other}
+use lib.Seq.{sets, sets-eq, length-sets, take-set-le, drop-set-lt, getD-set-other, drop-cons}
 use Rattle.payload.specs.MeshDrawing.{pointWords, runWords}
-use Rattle.payload.specs.Internal.{wordAt, wordIn, wordsFrom, Expanded, ExpandedFrom}
+use Rattle.payload.specs.Internal.{wordAt, wordIn, wordsFrom, Expanded, ExpandedFrom, PointsBelow}
 use Rattle.payload.proofs.FillLaws.{getD-sets}
 use Rattle.payload.proofs.MeasureLaws.{run-floats}
-use Rattle.payload.proofs.DrawLaws.{point-agrees, run-agrees, three-points}
+use Rattle.payload.proofs.DrawLaws.{point-first, point-agrees, run-agrees}
 
 -- ---- stores leave what lies before and after them
 
@@ -94,28 +94,28 @@ expanded-after-run f base d e o c l k g S h =
     let r = run-floats f base l in
     expanded-kept (runWords f base l) e o k (omega arith) (S (omega arith))
 
--- the words of three vertices that were copied from it
-pub three-expanded : {s numbers : List ℕ} {base m expanded : ℕ} {d : List ℕ} → Expanded s numbers base (5 * m) d expanded → (a b c o : ℕ) (e : List ℕ) → a < m → b < m → c < m
-    → e ≡ sets d o (runWords (wordIn d) expanded (a ∷ b ∷ c ∷ [])) → e ≡ sets d o (runWords (wordAt s numbers) base (a ∷ b ∷ c ∷ []))
-three-expanded {s} {numbers} {base} {m} {expanded} {d} S a b c o e la lb lc k =
-    k ∙ ap (λ (l : List ℕ). sets d o l) (run-agrees (wordIn d) (wordAt s numbers) expanded base m (S .same) (a ∷ b ∷ c ∷ []) below)
-  where
-    below : (i : ℕ) → i < 3 → getD (a ∷ b ∷ c ∷ []) i 0 < m
-    below zero h = la
-    below (suc zero) h = lb
-    below (suc (suc zero)) h = lc
-    below (suc (suc (suc i))) h = absurd (omega arith)
+-- the words of some vertices that were copied from it
+pub points-expanded : {s numbers : List ℕ} {base m expanded : ℕ} {d : List ℕ} → Expanded s numbers base (5 * m) d expanded → (points : List ℕ) (o : ℕ) (e : List ℕ) → PointsBelow m points
+    → e ≡ sets d o (runWords (wordIn d) expanded points) → e ≡ sets d o (runWords (wordAt s numbers) base points)
+points-expanded {s} {numbers} {base} {m} {expanded} {d} S points o e u k =
+    k ∙ ap (λ (l : List ℕ). sets d o l) (run-agrees (wordIn d) (wordAt s numbers) expanded base m (S .same) points u)
 
--- three copies, one after the other, of words after all three places
-pub three-copied : (d x y z : List ℕ) (expanded o a b c : ℕ) → o + 15 ≤ expanded
-    → x ≡ sets d o (pointWords (wordIn d) (expanded + 5 * a)) → y ≡ sets x (o + 5) (pointWords (wordIn x) (expanded + 5 * b)) → z ≡ sets y (o + 10) (pointWords (wordIn y) (expanded + 5 * c))
-    → z ≡ sets d o (runWords (wordIn d) expanded (a ∷ b ∷ c ∷ []))
-three-copied d x y z expanded o a b c h ex ey ez =
-    let f = wordIn d in
-    let xs : (k : ℕ) → expanded ≤ k → wordIn x k ≡ wordIn d k = λ k l. ap (λ (m : List ℕ). getD m k 0) ex ∙ getD-sets-after (pointWords f (expanded + 5 * a)) d o k (omega arith) in
-    let ys : (k : ℕ) → expanded ≤ k → wordIn y k ≡ wordIn d k = λ k l. ap (λ (m : List ℕ). getD m k 0) ey ∙ getD-sets-after (pointWords (wordIn x) (expanded + 5 * b)) x (o + 5) k (omega arith) ∙ xs k l in
-    let eb : pointWords (wordIn x) (expanded + 5 * b) ≡ pointWords f (expanded + 5 * b) = point-agrees (wordIn x) f (expanded + 5 * b) (expanded + 5 * b) (λ k l. xs (expanded + 5 * b + k) (omega arith)) in
-    let ec : pointWords (wordIn y) (expanded + 5 * c) ≡ pointWords f (expanded + 5 * c) = point-agrees (wordIn y) f (expanded + 5 * c) (expanded + 5 * c) (λ k l. ys (expanded + 5 * c + k) (omega arith)) in
-    ez
-    ∙ ap₂ (λ (m l : List ℕ). sets m (o + 10) l) (ey ∙ ap₂ (λ (m l : List ℕ). sets m (o + 5) l) ex eb) ec
-    ∙ three-points f expanded a b c d o
+-- what a loop that copies points keeps: storing those that are left gives `all`, and what stands from `expanded` on is as it was
+pub record Copying (words₀ all words points : List ℕ) (expanded i to : ℕ) : Type 0 where
+  pub same : all ≡ sets words to (runWords (wordIn words₀) expanded (drop i points))
+  pub kept : (k : ℕ) → expanded ≤ k → wordIn words k ≡ wordIn words₀ k
+  pub long : length words ≡ length words₀
+
+pub copying-on : {words₀ all words points : List ℕ} {expanded i to : ℕ} → Copying words₀ all words points expanded i to → (words′ : List ℕ) → i < length points → to + 5 ≤ expanded
+    → words′ ≡ sets words to (pointWords (wordIn words) (expanded + 5 * getD points i 0)) → length words′ ≡ length words → Copying words₀ all words′ points expanded (i + 1) (to + 5)
+copying-on {words₀} {all} {words} {points} {expanded} {i} {to} C words′ l h e g =
+    let v = getD points i 0 in
+    let z : i + 1 ≡ suc i = omega arith in
+    let a : pointWords (wordIn words) (expanded + 5 * v) ≡ pointWords (wordIn words₀) (expanded + 5 * v) =
+    point-agrees (wordIn words) (wordIn words₀) (expanded + 5 * v) (expanded + 5 * v) (λ k u. C .kept (expanded + 5 * v + k) (omega arith)) in
+    let d : words′ ≡ sets words to (pointWords (wordIn words₀) (expanded + 5 * v)) = e ∙ ap (sets words to) a in
+    record {
+      same = C .same ∙ point-first (wordIn words₀) expanded v (drop i points) (drop (suc i) points) words to (drop-cons points i 0 l) ∙ rw (z, ← d);
+      kept = λ k u. ap (λ (t : List ℕ). getD t k 0) e ∙ getD-sets-after (pointWords (wordIn words) (expanded + 5 * v)) words to k (omega arith) ∙ C .kept k u;
+      long = g ∙ C .long;
+    }

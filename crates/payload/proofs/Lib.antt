@@ -15,9 +15,8 @@ pub mod SphereMarked
 pub mod CubeMarked
 pub mod FloatLaws
 pub mod NanProofs
-pub mod RunLaws
-pub mod WindowLaws
 pub mod StepLaws
+pub mod PartLaws
 pub mod RangeLaws
 pub mod SubmeshLaws
 pub mod BodyLaws

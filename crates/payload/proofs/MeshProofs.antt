@@ -4,7 +4,7 @@ use Rattle.bits.specs.Verdict.{within}
 use Rattle.bits.specs.Field.{bitAt, field}
 use Rattle.bits.specs.Number.{ranOn, leastFrom, widthOf}
 use Rattle.bits.specs.Header.{sizedAt, headerAt}
-use Rattle.payload.specs.Run.{complete, readRun}
+use Rattle.bits.specs.Run.{complete, readRun}
 use Rattle.payload.specs.MeshRead.{inRange, many, readSubmesh, readSubmeshes, readWords, afterVertices, afterCounts, afterPoolCount, readMesh, readBoxes, readFrom}
 use Rattle.bits.specs.Put.{bytesOf}
 use Rattle.payload.specs.MeshDrawing.{drawnNumbers, drawnFloats, submeshWords, runWords, submeshRecords, recordsFrom}

@@ -10,11 +10,11 @@ use Rattle.bits.specs.Field.{field}
 use Rattle.bits.specs.Number.{widthOf}
 use Rattle.bits.proofs.VerdictLaws.{then-yes}
 use Rattle.payload.specs.Mesh.{Mesh}
-use Rattle.payload.specs.Run.{RunSpells, five}
+use Rattle.bits.specs.Run.{zeros, RunSpells}
 use Rattle.payload.specs.MeshSpells.{submeshBits, sizes, SubmeshesSpell, vertexCount, aligned, verticesAt}
 use Rattle.payload.specs.MeshSpells.{verticesEnd, submeshesAt, submeshesEnd, MeshSpells}
 use Rattle.payload.specs.MeshRead.{many, readSubmesh, readSubmeshes, readWords, meshOf, readMesh}
-use Rattle.payload.proofs.RunLaws.{complete-value, run-spells, spells-run}
+use Rattle.bits.proofs.RunLaws.{complete-value, run-spells, spells-run}
 use Rattle.payload.proofs.RangeLaws.{inrange-value, words-length, words-at}
 use Rattle.payload.proofs.SubmeshLaws.{submeshes-value, submeshes-on, submeshes-spell, spell-submeshes}
 use Rattle.payload.proofs.BodyLaws.{mesh-on, pool-read, pool-on, vertexRun, counts-on, counts-parts}
@@ -74,10 +74,10 @@ mesh-parts s x t e =
 
 -- the runs of a mesh that was read
 module _ {s : List ℕ} {x : Mesh} {t : ℕ} (r : MeshParts s x t) where
-  pub parts-vertices : RunSpells s (widthOf (r .n)) (r .n) (verticesAt (r .n)) five (x .vertices)
+  pub parts-vertices : RunSpells s (widthOf (r .n)) (r .n) (verticesAt (r .n)) (zeros 5) (x .vertices)
       × (length (x .vertices) ≡ 5 * r .m) × (r .q ≡ verticesAt (r .n) + 5 * r .m * widthOf (r .n))
   parts-vertices =
-      run-spells s (widthOf (r .n)) (r .n) (5 * r .m) (verticesAt (r .n)) five (x .vertices) (r .q) (omega arith)
+      run-spells s (widthOf (r .n)) (r .n) (5 * r .m) (verticesAt (r .n)) (zeros 5) (x .vertices) (r .q) (omega arith)
       (r .run)
 
   pub parts-submeshes : SubmeshesSpell s (widthOf (r .m)) (r .m) (aligned (r .q) + 32) (x .submeshes)
@@ -121,7 +121,7 @@ module _ (s : List ℕ) where
       let m = vertexCount x in
       let q = verticesEnd x in
       let r : vertexRun s n m ≡ accepted (x .vertices, q) =
-      rw (← e .fives) (spells-run s (widthOf n) n (verticesAt n) five (x .vertices) (omega arith) (e .vertices-run)) in
+      rw (← e .fives) (spells-run s (widthOf n) n (verticesAt n) (zeros 5) (x .vertices) (omega arith) (e .vertices-run)) in
       let p : readWords s 32 n ≡ x .pool =
       ext-getD 0 (readWords s 32 n) (x .pool) (words-length s 32 n)
       (λ i h. let h′ : i < n = rw (words-length s 32 n) at h in words-at s 32 n i h′ ∙ e .pool-words i h′) in

@@ -13,9 +13,9 @@ use Rattle.payload.specs.Mesh.{Mesh, Submesh}
 use Rattle.payload.specs.MeshSpells.{SubmeshSpells, SubmeshesSpell, sizes, submeshBits, submeshesEnd, vertexCount}
 use Rattle.payload.specs.MeshWrite.{boxSize, gap, meshFields, runFields, stepField, submeshFields, submeshesFields, vertexFields, wordFields}
 use Rattle.payload.specs.Packed.{Fits, Laid, bits}
-use Rattle.payload.specs.Run.{RunSpells, five, shift}
+use Rattle.bits.specs.Run.{zeros, RunSpells, shift}
 use Rattle.payload.proofs.PackedLaws.{bits-append, fits-append, laid-append, laid-left, laid-right}
-use Rattle.payload.proofs.RunLaws.{shift-some, spells-cons, spells-head, spells-none, spells-tail}
+use Rattle.bits.proofs.RunLaws.{shift-some, spells-cons, spells-head, spells-none, spells-tail}
 
 -- ---- which meshes are written, as the layout has it
 
@@ -223,7 +223,7 @@ module _ (s : List ℕ) (w m : ℕ) where
 pub vertex-bits : (x : Mesh) → bits (vertexFields x) ≡ 32 * length (x .pool) + 64 + length (x .vertices) * widthOf (length (x .pool))
 unfolding vertexFields bits
 vertex-bits x =
-    omega (arith, bits-append (wordFields (x .pool)) ((32, vertexCount x) ∷ runFields (widthOf (length (x .pool))) five (x .vertices)), words-bits (x .pool), run-bits (widthOf (length (x .pool))) five (x .vertices))
+    omega (arith, bits-append (wordFields (x .pool)) ((32, vertexCount x) ∷ runFields (widthOf (length (x .pool))) (zeros 5) (x .vertices)), words-bits (x .pool), run-bits (widthOf (length (x .pool))) (zeros 5) (x .vertices))
 
 pub mesh-bits : (x : Mesh) → bits (meshFields x) ≡ submeshesEnd x
 unfolding meshFields bits

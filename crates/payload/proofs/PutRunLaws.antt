@@ -8,8 +8,8 @@ use lib.ListN.{length, getD, drop, length-append}
 use lib.Seq.{drop-cons, getD-append-add}
 use Rattle.payload.specs.MeshWrite.{runFields, stepField, wordFields}
 use Rattle.payload.specs.Packed.{Field}
-use Rattle.payload.specs.Writing.{zeros}
-use Rattle.payload.proofs.RunLaws.{shift-some}
+use Rattle.bits.specs.Run.{zeros}
+use Rattle.bits.proofs.RunLaws.{shift-some}
 
 -- what a list leaves from i on
 pub rest-cons : (l : List ℕ) (i : ℕ) → i < length l → drop i l ≡ getD l i 0 ∷ drop (i + 1) l

@@ -15,10 +15,10 @@ use Rattle.bits.specs.Field.{field}
 use Rattle.bits.specs.Number.{widthOf}
 use Rattle.bits.proofs.VerdictLaws.{le-or-lt, clash, tested-value, then-yes, then-no, then-value}
 use Rattle.bits.proofs.NumberLaws.{width-enough, width-least}
-use Rattle.payload.specs.Run.{Found, complete}
+use Rattle.bits.specs.Run.{Found, complete}
 use Rattle.payload.specs.MeshSpells.{EachSpells, sizes}
 use Rattle.payload.specs.MeshRead.{inRange, notZero, many, readWord, readWords}
-use Rattle.payload.proofs.RunLaws.{complete-yes, complete-no}
+use Rattle.bits.proofs.RunLaws.{complete-yes, complete-no}
 
 -- ---- widths
 

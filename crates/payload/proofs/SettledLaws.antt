@@ -10,7 +10,7 @@ use Rattle.bits.specs.Field.{field}
 use Rattle.bits.specs.Number.{below, ranOn, widthOf}
 use Rattle.bits.specs.Header.{Item, listEnd, box, headerAt}
 use Rattle.payload.specs.Mesh.{Mesh}
-use Rattle.payload.specs.Run.{Found, complete, readRun, shift, nextOf, before, one, five}
+use Rattle.bits.specs.Run.{zeros, Found, complete, readRun, shift, nextOf, inFront}
 use Rattle.payload.specs.MeshSpells.{aligned, part, meshType}
 use Rattle.payload.specs.MeshRead.{inRange, notZero, many, readSubmesh, submeshOf, readSubmeshes, readWord, meshOf}
 use Rattle.payload.specs.MeshRead.{afterVertices, afterVertexCount, afterPool, afterPoolCount, readMesh, readItem}
@@ -64,17 +64,17 @@ unfolding readRun
 settled-run s w limit zero p prior = tt
 settled-run s w limit (suc n) p prior =
     let rest : ℕ → Found (List ℕ) = λ next. readRun s w limit n (p + w) (shift prior next) in
-    settled-complete s (p + w) (andThen (nextOf s w limit p prior) (λ next. before next (rest next)))
-    (settled-then (nextOf s w limit p prior) (λ next. before next (rest next)) (settled-next limit (getD prior 0 0) (field s p w))
+    settled-complete s (p + w) (andThen (nextOf s w limit p prior) (λ next. inFront next (rest next)))
+    (settled-then (nextOf s w limit p prior) (λ next. inFront next (rest next)) (settled-next limit (getD prior 0 0) (field s p w))
     (λ next. settled-then (rest next) (λ x. accepted (next ∷ x .0, x .1)) (settled-run s w limit n (p + w) (shift prior next)) (λ x. tt)))
 
 settled-submesh : (s : List ℕ) (w m p : ℕ) → Settled (readSubmesh s w m p)
 unfolding readSubmesh
 settled-submesh s w m p =
     let n = field s (p + 16) 32 in
-    let run = readRun s w m n (p + 48) one in
+    let run = readRun s w m n (p + 48) (zeros 1) in
     settled-complete s (p + 48) (inRange 1 128000 n (andThen run (submeshOf s p)))
-    (settled-range 1 128000 n (andThen run (submeshOf s p)) (settled-then run (submeshOf s p) (settled-run s w m n (p + 48) one) (λ x. tt)))
+    (settled-range 1 128000 n (andThen run (submeshOf s p)) (settled-then run (submeshOf s p) (settled-run s w m n (p + 48) (zeros 1)) (λ x. tt)))
 
 settled-submeshes : (s : List ℕ) (w m p : ℕ) → Settled (readSubmeshes s w m p)
 unfolding readSubmeshes
@@ -87,7 +87,7 @@ settled-submeshes s w m p =
 settled-vertices : (s : List ℕ) (n : ℕ) (pool : List ℕ) (m p : ℕ) → Settled (afterVertexCount s n pool m p)
 unfolding afterVertices
 settled-vertices s n pool m p =
-    settled-then (readRun s (widthOf n) n (5 * m) p five) (afterVertices s pool m) (settled-run s (widthOf n) n (5 * m) p five)
+    settled-then (readRun s (widthOf n) n (5 * m) p (zeros 5)) (afterVertices s pool m) (settled-run s (widthOf n) n (5 * m) p (zeros 5))
     (λ v. settled-then (readSubmeshes s (widthOf m) m (aligned (v .1))) (meshOf pool (v .0))
     (settled-submeshes s (widthOf m) m (aligned (v .1))) (λ l. tt))
 

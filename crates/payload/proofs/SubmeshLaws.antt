@@ -9,10 +9,10 @@ use Rattle.bits.specs.Verdict.{accepted, declined, andThen}
 use Rattle.bits.specs.Field.{field}
 use Rattle.bits.proofs.VerdictLaws.{then-yes, then-value}
 use Rattle.payload.specs.Mesh.{Submesh}
-use Rattle.payload.specs.Run.{readRun, one}
+use Rattle.bits.specs.Run.{zeros, readRun}
 use Rattle.payload.specs.MeshSpells.{SubmeshSpells, submeshBits, sizes, SubmeshesSpell}
 use Rattle.payload.specs.MeshRead.{many, submeshOf, readSubmesh, readSubmeshes}
-use Rattle.payload.proofs.RunLaws.{complete-yes, complete-no, complete-value, run-spells, spells-run}
+use Rattle.bits.proofs.RunLaws.{complete-yes, complete-no, complete-value, run-spells, spells-run}
 use Rattle.payload.proofs.RangeLaws.{inrange-low, inrange-high, inrange-yes, inrange-value}
 use Rattle.payload.proofs.RangeLaws.{notzero-no, notzero-yes, notzero-value, found-same, many-spells, spells-many}
 
@@ -33,7 +33,7 @@ module _ (s : List ℕ) (w m p : ℕ) where
     submesh-high l = complete-yes s (p + 48) _ h ∙ inrange-high 1 128000 _ _ l
 
     pub submesh-run : 1 ≤ field s (p + 16) 32 → field s (p + 16) 32 ≤ 128000
-        → readSubmesh s w m p ≡ andThen (readRun s w m (field s (p + 16) 32) (p + 48) one) (submeshOf s p)
+        → readSubmesh s w m p ≡ andThen (readRun s w m (field s (p + 16) 32) (p + 48) (zeros 1)) (submeshOf s p)
     unfolding readSubmesh
     submesh-run l u = complete-yes s (p + 48) _ h ∙ inrange-yes 1 128000 _ _ l u
 
@@ -43,14 +43,14 @@ module _ (s : List ℕ) (w m p : ℕ) where
   submesh-spells x q e =
       let a = complete-value s (p + 48) _ (x, q) e in
       let b = inrange-value 1 128000 (field s (p + 16) 32) _ (x, q) (a .1) in
-      let c = then-value (readRun s w m (field s (p + 16) 32) (p + 48) one) (submeshOf s p) (x, q) (b .2) in
+      let c = then-value (readRun s w m (field s (p + 16) 32) (p + 48) (zeros 1)) (submeshOf s p) (x, q) (b .2) in
       from (a .0) (b .0) (b .1) (c .0 .0) (c .0 .1) (c .1) (c .2)
     where
       from : p + 48 ≤ 8 * length s → 1 ≤ field s (p + 16) 32 → field s (p + 16) 32 ≤ 128000
-          → (ns : List ℕ) (t : ℕ) → readRun s w m (field s (p + 16) 32) (p + 48) one ≡ accepted (ns, t)
+          → (ns : List ℕ) (t : ℕ) → readRun s w m (field s (p + 16) 32) (p + 48) (zeros 1) ≡ accepted (ns, t)
           → submeshOf s p (ns, t) ≡ accepted (x, q) → SubmeshSpells s w m p x × (q ≡ p + submeshBits w x)
       from h l u ns t r d =
-          let f = run-spells s w m (field s (p + 16) 32) (p + 48) one ns t (omega arith) r in
+          let f = run-spells s w m (field s (p + 16) 32) (p + 48) (zeros 1) ns t (omega arith) r in
           let i = found-same d .0 in
           let j : t ≡ q = found-same d .1 in
           rw (← i, ← j) (
@@ -69,11 +69,11 @@ module _ (s : List ℕ) (w m p : ℕ) where
   pub spells-submesh : (x : Submesh) → SubmeshSpells s w m p x → readSubmesh s w m p ≡ accepted (x, p + submeshBits w x)
   spells-submesh x e =
       let k = length (x .points) in
-      let r : readRun s w m (field s (p + 16) 32) (p + 48) one ≡ accepted (x .points, p + 48 + k * w) =
-      rw (e .count) (spells-run s w m (p + 48) one (x .points) (omega arith) (e .run)) in
+      let r : readRun s w m (field s (p + 16) 32) (p + 48) (zeros 1) ≡ accepted (x .points, p + 48 + k * w) =
+      rw (e .count) (spells-run s w m (p + 48) (zeros 1) (x .points) (omega arith) (e .run)) in
       let q : p + 48 + k * w ≡ p + submeshBits w x = omega arith in
       submesh-run (e .header) (rw (e .count) (e .some)) (rw (e .count) (e .most))
-      ∙ then-yes (readRun s w m (field s (p + 16) 32) (p + 48) one) (submeshOf s p) (x .points, p + 48 + k * w) r
+      ∙ then-yes (readRun s w m (field s (p + 16) 32) (p + 48) (zeros 1)) (submeshOf s p) (x .points, p + 48 + k * w) r
       ∙ rw (e .texture, e .mode, q)
 
 -- ---- a submesh count and its submeshes

@@ -11,7 +11,7 @@ use Rattle.bits.specs.Verdict.{Verdict, accepted, needs, declined, mapped, andT
 use Rattle.bits.specs.Field.{field}
 use Rattle.bits.proofs.VerdictLaws.{then-yes, then-no, mapped-value, mapped-declined}
 use Rattle.payload.specs.Mesh.{Submesh, Mesh}
-use Rattle.payload.specs.Run.{readRun, one}
+use Rattle.bits.specs.Run.{zeros, readRun}
 use Rattle.payload.specs.MeshSpells.{vertexCount}
 use Rattle.payload.specs.MeshRead.{many, readSubmesh, readWords, readMesh}
 use Rattle.payload.specs.MeshDrawing.{pointCount}
@@ -20,7 +20,7 @@ use Rattle.payload.specs.Tables.{submeshRows, allPoints, poolTable, coor
 use Rattle.payload.specs.declared.mesh.measure.TableLengths.{TableLengths}
 use Rattle.payload.proofs.FillLaws.{sets-after, sets-front}
 use Rattle.payload.proofs.PayloadLaws.{limited-yes, limited-no, limited-value}
-use Rattle.payload.proofs.StepLaws.{was-read, read-value, Turn, Got3}
+use Rattle.payload.proofs.StepLaws.{was-read, read-value}
 use Rattle.payload.proofs.RangeLaws.{words-length}
 use Rattle.payload.proofs.MeshReadLaws.{MeshParts, mesh-parts, mesh-spells}
 use Rattle.payload.proofs.TurnLaws.{SubmeshTurn, turn-stored, mesh-is}
@@ -73,20 +73,6 @@ unfolding allPoints
 points-length [] = refl
 points-length (x ∷ l) = length-append (x .points) (allPoints l) ∙ ap (λ (k : ℕ). length (x .points) + k) (points-length l)
 
--- ---- a run of vertex numbers: what is left of it goes to what is left of the buffer
-
-module _ (s : List ℕ) (w m n p x : ℕ) (d : List ℕ) (o : ℕ) where
-  pub one-stored : (r : ℕ) → Turn s w m n p (x ∷ []) r
-      → sets d o (runNumbers (readRun s w m n p (x ∷ []))) ≡ sets (set d o r) (o + 1) (runNumbers (readRun s w m (n - 1) (p + w) (r ∷ [])))
-  one-stored r g = let k : o + 1 ≡ suc o = omega arith in ap (λ (l : List ℕ). sets d o l) (g .is) ∙ rw k
-
-  pub three-stored : (a b c : ℕ) (e : List ℕ) → Got3 s w m n p x a b c → e ≡ sets d o (a ∷ b ∷ c ∷ [])
-      → sets d o (runNumbers (readRun s w m n p (x ∷ []))) ≡ sets e (o + 3) (runNumbers (readRun s w m (n - 3) (p + 3 * w) (c ∷ [])))
-  three-stored a b c e g h =
-      ap (λ (l : List ℕ). sets d o l) (g .is)
-      ∙ sets-after (a ∷ b ∷ c ∷ []) (runNumbers (readRun s w m (n - 3) (p + 3 * w) (c ∷ []))) d o (o + 3) refl
-      ∙ rw (← h)
-
 -- ---- the first of n submeshes, whose point count is k
 
 module _ {s : List ℕ} {w m n p k : ℕ} {x : Submesh} (T : SubmeshTurn s w m n p k x) (d e : List ℕ) (o : ℕ) where
@@ -99,7 +85,7 @@ module _ {s : List ℕ} {w m n p k : ℕ} {x : Submesh} (T : SubmeshTurn s w m n
       turn-stored T submeshRows submeshRows (x .texture ∷ x .mode ∷ length (x .points) ∷ []) (λ l. refl) d e o (o + 3) (rw (← T .texture, ← T .mode, ← T .count, ← ea, ← eb) h) refl
 
   -- its points were stored, and the others' are left
-  pub points-turn : e ≡ sets d o (runNumbers (readRun s w m k (p + 48) one))
+  pub points-turn : e ≡ sets d o (runNumbers (readRun s w m k (p + 48) (zeros 1)))
       → sets d o (allPoints (submeshesRead (many (readSubmesh s w m) n p)))
       ≡ sets e (o + k) (allPoints (submeshesRead (many (readSubmesh s w m) (n - 1) (p + (48 + k * w)))))
   unfolding allPoints

@@ -15,7 +15,7 @@ use Rattle.bits.proofs.VerdictLaws.{then-value, mapped-value, mapped-declined}
 use Rattle.bits.proofs.NumberLaws.{width-least}
 use Rattle.payload.specs.Payload.{limited}
 use Rattle.payload.specs.Mesh.{Submesh, Mesh}
-use Rattle.payload.specs.Run.{Found, readRun, one}
+use Rattle.bits.specs.Run.{zeros, Found, readRun}
 use Rattle.payload.specs.MeshSpells.{headerBytes, meshType, part}
 use Rattle.payload.specs.MeshRead.{many, readSubmesh, readMesh, readFrom, readMeshes}
 use Rattle.payload.specs.MeshDrawing.{pointCount, drawnNumbers, drawnFloats, drawnRecords}
@@ -24,7 +24,7 @@ use Rattle.payload.specs.Internal.{WasRead, valueOr, submeshesRead, mesh
 use Rattle.payload.specs.declared.mesh.measure.MeshListSize.{MeshListSize}
 use Rattle.payload.proofs.FillLaws.{sets-after}
 use Rattle.payload.proofs.PayloadLaws.{limited-value, limited-mapped}
-use Rattle.payload.proofs.RunLaws.{spells-run}
+use Rattle.bits.proofs.RunLaws.{spells-run}
 use Rattle.payload.proofs.StepLaws.{read-value}
 use Rattle.payload.proofs.RangeLaws.{many-on}
 use Rattle.payload.proofs.SubmeshLaws.{submesh-spells}
@@ -38,8 +38,9 @@ pub record SubmeshTurn (s : List ℕ) (w m n p k : ℕ) (x : Submesh) : Type 0 w
   pub texture : field s p 8 ≡ x .texture
   pub mode : field s (p + 8) 8 ≡ x .mode
   pub count : k ≡ length (x .points)
+  pub some : 1 ≤ k
   pub ends : p + 48 + k * w ≤ 8 * length s
-  pub run : readRun s w m k (p + 48) one ≡ accepted (x .points, p + 48 + k * w)
+  pub run : readRun s w m k (p + 48) (zeros 1) ≡ accepted (x .points, p + 48 + k * w)
   pub is : submeshesRead (many (readSubmesh s w m) n p) ≡ x ∷ submeshesRead (many (readSubmesh s w m) (n - 1) (p + (48 + k * w)))
   pub rest : WasRead (many (readSubmesh s w m) (n - 1) (p + (48 + k * w)))
 
@@ -78,8 +79,9 @@ module _ (s : List ℕ) (w m : ℕ) where
               texture = f .0 .texture;
               mode = f .0 .mode;
               count = g;
+              some = omega (arith, f .0 .some);
               ends = run-fits k (f .0 .run) (sym g) (omega (arith, f .0 .some));
-              run = rw g (spells-run s w m (p + 48) one (x .points) (omega arith) (f .0 .run));
+              run = rw g (spells-run s w m (p + 48) (zeros 1) (x .points) (omega arith) (f .0 .run));
               is = rw (z, e, ← i) (b .0);
               rest = rw (z, ← i) (b .1);
             },

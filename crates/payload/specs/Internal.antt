@@ -7,22 +7,17 @@ use mathlib.Core.Path.{_≡_}
 use mathlib.Core.List.{List, [], _∷_}
 use Rattle.bits.specs.Verdict.{Verdict, accepted, needs, declined, mapped}
 use Rattle.bits.specs.Field.{field}
-use Rattle.bits.specs.Number.{steppedTo, widthOf}
+use Rattle.bits.specs.Number.{widthOf}
 use Rattle.payload.specs.Mesh.{Submesh, Mesh}
-use Rattle.payload.specs.Run.{Found}
+use Rattle.bits.specs.Run.{zeros, Found, readRun, summed}
+use Rattle.bits.specs.declared.fields.runs.Run.{Run}
 use Rattle.payload.specs.MeshSpells.{vertexCount, part, meshType, aligned, verticesAt}
 use Rattle.payload.specs.MeshRead.{readMesh, readFrom}
 use Rattle.payload.specs.MeshDrawing.{pointCount, pointTotal, drawnNumbers, drawnFloats, recordsFrom}
-use Rattle.payload.specs.declared.mesh.Five.{Five}
-use Rattle.payload.specs.declared.mesh.FiveNext.{FiveNext}
 use Rattle.payload.specs.declared.mesh.Head.{Head}
-use Rattle.payload.specs.declared.mesh.Three.{Three}
-use Rattle.payload.specs.declared.mesh.Two.{Two}
 use Rattle.payload.specs.declared.mesh.draw.Place.{Place}
 use Rattle.payload.specs.declared.mesh.draw.Record.{Record}
 use Rattle.payload.specs.declared.mesh.draw.RecordPlace.{RecordPlace}
-use Rattle.payload.specs.declared.mesh.measure.RunEnd.{RunEnd}
-use Rattle.payload.specs.declared.mesh.measure.RunEnd.the-variants as R
 use Rattle.payload.specs.declared.mesh.measure.SubmeshEnd.{SubmeshEnd}
 use Rattle.payload.specs.declared.mesh.measure.SubmeshEnd.the-variants as E
 use Rattle.payload.specs.declared.mesh.measure.SubmeshesSize.{SubmeshesSize}
@@ -32,39 +27,6 @@ use Rattle.payload.specs.declared.mesh.measure.BodySize.the-variants as 
 use Rattle.payload.specs.declared.mesh.measure.Totals.{Totals}
 use Rattle.payload.specs.declared.mesh.measure.Totalled.{Totalled}
 use Rattle.payload.specs.declared.mesh.measure.Totalled.the-variants as T
-
--- how many bits before bit q stand in the eight, or the five, bytes that end with it
-abbrev pub wideBits : ℕ → ℕ
-wideBits q = 57 + (q + 7) % 8
-
-abbrev pub narrowBits : ℕ → ℕ
-narrowBits q = 33 + (q + 7) % 8
-
--- five running numbers as a list
-abbrev pub queue : Five → List ℕ
-queue v = v .a ∷ v .b ∷ v .c ∷ v .d ∷ v .e ∷ []
-
-abbrev pub queueNext : FiveNext → List ℕ
-queueNext v = v .a ∷ v .b ∷ v .c ∷ v .d ∷ v .e ∷ []
-
-abbrev pub AllBelow : ℕ → FiveNext → Type 0
-AllBelow limit v = (v .a < limit) × (v .b < limit) × (v .c < limit) × (v .d < limit) × (v .e < limit)
-
--- the fields f and g take the numbers v to the numbers r
-pub record SteppedBy (v : Five) (f : Three) (g : Two) (r : FiveNext) : Type 0 where
-  pub first : r .a ≡ steppedTo (v .a) (f .a)
-  pub second : r .b ≡ steppedTo (v .b) (f .b)
-  pub third : r .c ≡ steppedTo (v .c) (f .c)
-  pub fourth : r .d ≡ steppedTo (v .d) (g .a)
-  pub fifth : r .e ≡ steppedTo (v .e) (g .b)
-
--- the five fields from bit p on take the numbers v to the numbers r
-pub record Stepped5 (s : List ℕ) (w p : ℕ) (v : Five) (r : FiveNext) : Type 0 where
-  pub first : r .a ≡ steppedTo (v .a) (field s p w)
-  pub second : r .b ≡ steppedTo (v .b) (field s (p + w) w)
-  pub third : r .c ≡ steppedTo (v .c) (field s (p + w + w) w)
-  pub fourth : r .d ≡ steppedTo (v .d) (field s (p + w + w + w) w)
-  pub fifth : r .e ≡ steppedTo (v .e) (field s (p + w + w + w + w) w)
 
 -- it was accepted
 abbrev pub WasRead : {A : Type 0} → Verdict A → Type 0
@@ -82,15 +44,28 @@ valueOr a (declined k) = a
 abbrev pub runNumbers : Found (List ℕ) → List ℕ
 runNumbers v = valueOr ([], 0) v .0
 
+-- a run of vertex numbers, below their limit, at a place of a body that is known to be read there
+pub record RunPlace (s : List ℕ) (run : Run) : Type 0 where
+  pub short : length s ≤ 67108864
+  pub low : 64 ≤ run .bit
+  pub some : 1 ≤ run .limit
+  pub most : run .limit ≤ 32000
+  pub points : 1 ≤ run .count
+  pub read : WasRead (readRun s (widthOf (run .limit)) (run .limit) (run .count) (run .bit) (zeros 1))
+
+abbrev pub pointsOf : List ℕ → Run → List ℕ
+pointsOf s run = runNumbers (readRun s (widthOf (run .limit)) (run .limit) (run .count) (run .bit) (zeros 1))
+
 -- ---- what the validating pass keeps of what was read
 
--- the place after a run
-abbrev pub placeOf : List ℕ × ℕ → ℕ
-placeOf x = x .1
-
-abbrev pub runSays : RunEnd → Verdict ℕ
-runSays (R.At q) = accepted q
-runSays (R.Declined k) = declined k
+-- where submeshes over m vertices begin in a body, and how wide their fields are
+pub record SubmeshPlace (s : List ℕ) (w m p : ℕ) : Type 0 where
+  pub short : length s ≤ 67108864
+  pub wide : w ≡ widthOf m
+  pub some : 1 ≤ m
+  pub most : m ≤ 32000
+  pub low : 64 ≤ p
+  pub inside : p ≤ 8 * length s
 
 -- a submesh's point count and the place after it
 abbrev pub pointsEnd : Submesh × ℕ → ℕ × ℕ
@@ -164,6 +139,10 @@ pub record Pooled (s numbers : List ℕ) (k n : ℕ) : Type 0 where
   pub there : k + n ≤ length numbers
   pub inside : (i : ℕ) → k ≤ i → i < k + n → 32 * getD numbers i 0 + 64 ≤ 8 * length s
 
+-- the vertex of each of some points is there, and its pool words lie inside the body
+abbrev pub PointsPooled : List ℕ → List ℕ → ℕ → List ℕ → Type 0
+PointsPooled s numbers base points = (i : ℕ) → i < length points → Pooled s numbers (base + 5 * getD points i 0) 5
+
 -- the word at place k of a buffer
 abbrev pub wordIn : List ℕ → ℕ → ℕ
 wordIn words k = getD words k 0
@@ -178,9 +157,36 @@ pub record Expanded (s numbers : List ℕ) (base n : ℕ) (words : List ℕ) (ex
   pub there : expanded + n ≤ length words
   pub same : (i : ℕ) → i < n → wordIn words (expanded + i) ≡ wordAt s numbers (base + i)
 
+-- some points' vertices are expanded there
+abbrev pub PointsExpanded : List ℕ → ℕ → List ℕ → Type 0
+PointsExpanded words expanded points = (i : ℕ) → i < length points → expanded + 5 * getD points i 0 + 5 ≤ length words
+
+-- some points are below m
+abbrev pub PointsBelow : ℕ → List ℕ → Type 0
+PointsBelow m points = (i : ℕ) → i < length points → getD points i 0 < m
+
 -- they are there as long as nothing was stored at their place or after it
 abbrev pub ExpandedFrom : ℕ → List ℕ → List ℕ → ℕ → ℕ → List ℕ → ℕ → Type 0
 ExpandedFrom off s numbers base n words expanded = off < expanded → Expanded s numbers base n words expanded
+
+-- how many of those that are left are drawn at once
+pub record SomeOf (left r : ℕ) : Type 0 where
+  pub some : 1 ≤ left → 1 ≤ r
+  pub few : r ≤ 32
+  pub most : r ≤ left
+
+-- the next points of a run: they lie inside the body
+pub record SomeRun (s : List ℕ) (run : Run) : Type 0 where
+  pub short : length s ≤ 67108864
+  pub low : 64 ≤ run .bit
+  pub some : 1 ≤ run .limit
+  pub most : run .limit ≤ 32000
+  pub points : 1 ≤ run .count
+  pub few : run .count ≤ 32
+  pub whole : run .bit + run .count * widthOf (run .limit) ≤ 8 * length s
+
+abbrev pub someNumbers : List ℕ → Run → ℕ → List ℕ
+someNumbers s run from = summed s (widthOf (run .limit)) (run .count) (run .bit) (from ∷ [])
 
 -- the submeshes, the mesh of a body, the meshes of a box, and those from a byte on that were read; none where they were refused
 abbrev pub submeshesRead : Found (List Submesh) → List Submesh

@@ -17,7 +17,6 @@ pub mod SphereMarked
 pub mod CubeMarked
 pub mod NanLaws
 pub mod Mesh
-pub mod Run
 pub mod MeshSpells
 pub mod MeshRead
 pub mod MeshDrawing

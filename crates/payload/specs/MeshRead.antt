@@ -10,7 +10,7 @@ use Rattle.bits.specs.Field.{field}
 use Rattle.bits.specs.Number.{widthOf}
 use Rattle.bits.specs.Header.{Item, listEnd, box, headerAt}
 use Rattle.payload.specs.Mesh.{Submesh, Mesh}
-use Rattle.payload.specs.Run.{Found, complete, readRun, one, five}
+use Rattle.bits.specs.Run.{zeros, Found, complete, readRun}
 use Rattle.payload.specs.MeshSpells.{aligned, verticesAt, part, meshType}
 
 -- a count from low to high: 7 where it is not
@@ -37,7 +37,7 @@ unfoldable pub readSubmesh : List ℕ → ℕ → ℕ → ℕ → Found Submesh
 readSubmesh s w m p =
     complete s (p + 48)
     (inRange 1 128000 (field s (p + 16) 32)
-    (andThen (readRun s w m (field s (p + 16) 32) (p + 48) one) (submeshOf s p)))
+    (andThen (readRun s w m (field s (p + 16) 32) (p + 48) (zeros 1)) (submeshOf s p)))
 
 -- a submesh count, which is not 0, and the submeshes
 unfoldable pub readSubmeshes : List ℕ → ℕ → ℕ → ℕ → Found (List Submesh)
@@ -60,7 +60,7 @@ unfoldable pub afterVertices : List ℕ → List ℕ → ℕ → List ℕ × ℕ
 afterVertices s pool m v = andThen (readSubmeshes s (widthOf m) m (aligned (v .1))) (meshOf pool (v .0))
 
 abbrev pub afterVertexCount : List ℕ → ℕ → List ℕ → ℕ → ℕ → Found Mesh
-afterVertexCount s n pool m p = andThen (readRun s (widthOf n) n (5 * m) p five) (afterVertices s pool m)
+afterVertexCount s n pool m p = andThen (readRun s (widthOf n) n (5 * m) p (zeros 5)) (afterVertices s pool m)
 
 abbrev pub afterPool : List ℕ → ℕ → List ℕ × ℕ → Found Mesh
 afterPool s n pool =

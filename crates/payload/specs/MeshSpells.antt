@@ -6,7 +6,7 @@ use lib.ListN.{length, getD, take, drop}
 use Rattle.bits.specs.Field.{field}
 use Rattle.bits.specs.Number.{widthOf}
 use Rattle.payload.specs.Mesh.{Submesh, Mesh}
-use Rattle.payload.specs.Run.{RunSpells, one, five}
+use Rattle.bits.specs.Run.{zeros, RunSpells}
 
 -- ---- submeshes
 
@@ -18,7 +18,7 @@ pub record SubmeshSpells (s : List ℕ) (w m p : ℕ) (x : Submesh) : Type 0 whe
   pub count : field s (p + 16) 32 ≡ length (x .points)
   pub some : 1 ≤ length (x .points)
   pub most : length (x .points) ≤ 128000
-  pub run : RunSpells s w m (p + 48) one (x .points)
+  pub run : RunSpells s w m (p + 48) (zeros 1) (x .points)
 
 -- the bits of a submesh
 abbrev pub submeshBits : ℕ → Submesh → ℕ
@@ -72,7 +72,7 @@ pub record MeshSpells (s : List ℕ) (x : Mesh) : Type 0 where
   pub vertex-count : field s (32 * length (x .pool) + 32) 32 ≡ vertexCount x
   pub vertex-some : 1 ≤ vertexCount x
   pub vertex-most : vertexCount x ≤ 32000
-  pub vertices-run : RunSpells s (widthOf (length (x .pool))) (length (x .pool)) (verticesAt (length (x .pool))) five
+  pub vertices-run : RunSpells s (widthOf (length (x .pool))) (length (x .pool)) (verticesAt (length (x .pool))) (zeros 5)
       (x .vertices)
   pub tail : submeshesAt x + 32 ≤ 8 * length s
   pub submesh-count : field s (submeshesAt x) 32 ≡ length (x .submeshes)

@@ -8,7 +8,7 @@ use Rattle.bits.specs.Verdict.{Verdict, accepted, declined}
 use Rattle.bits.specs.Number.{widthOf}
 use Rattle.bits.specs.Put.{bytesOf}
 use Rattle.payload.specs.Mesh.{Submesh, Mesh}
-use Rattle.payload.specs.Run.{shift, one, five}
+use Rattle.bits.specs.Run.{zeros, shift}
 use Rattle.payload.specs.MeshSpells.{vertexCount, meshType}
 use Rattle.payload.specs.Packed.{Field, bits, spare, packed}
 
@@ -30,7 +30,7 @@ runFields w prior (x ∷ xs) = (w, stepField (getD prior 0 0) x) ∷ runFields w
 
 -- a submesh: texture, mode, index count, points
 unfoldable pub submeshFields : ℕ → Submesh → List Field
-submeshFields w x = (8, x .texture) ∷ (8, x .mode) ∷ (32, length (x .points)) ∷ runFields w one (x .points)
+submeshFields w x = (8, x .texture) ∷ (8, x .mode) ∷ (32, length (x .points)) ∷ runFields w (zeros 1) (x .points)
 
 unfoldable pub submeshesFields : ℕ → List Submesh → List Field
 submeshesFields w [] = []
@@ -42,7 +42,7 @@ gap n = (spare n, 0)
 
 -- a mesh body: coordinate count, words, vertex count, vertices; zero bits to a byte boundary, submesh count, submeshes
 unfoldable pub vertexFields : Mesh → List Field
-vertexFields x = (32, length (x .pool)) ∷ wordFields (x .pool) ++ ((32, vertexCount x) ∷ runFields (widthOf (length (x .pool))) five (x .vertices))
+vertexFields x = (32, length (x .pool)) ∷ wordFields (x .pool) ++ ((32, vertexCount x) ∷ runFields (widthOf (length (x .pool))) (zeros 5) (x .vertices))
 
 unfoldable pub meshFields : Mesh → List Field
 meshFields x = vertexFields x ++ (gap (bits (vertexFields x)) ∷ (32, length (x .submeshes)) ∷ submeshesFields (widthOf (vertexCount x)) (x .submeshes))

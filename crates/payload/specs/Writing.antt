@@ -39,11 +39,6 @@ pub record Advances (out : List ℕ) (from : BitWriter) (l : List Field) (out′
   pub long : length out′ ≡ length out
   pub same : (rest : List Field) → Fits rest → outcome out′ to (l′ ++ rest) ≡ outcome out from (l ++ rest)
 
--- so many running numbers at their start
-abbrev pub zeros : ℕ → List ℕ
-zeros zero = []
-zeros (suc n) = 0 ∷ zeros n
-
 -- what follows the vertices, where `waiting` bits are in a byte that is begun
 abbrev pub restFields : ℕ → ℕ → List Submesh → List Field
 restFields waiting m l = gap waiting ∷ (32, length l) ∷ submeshesFields (widthOf m) l

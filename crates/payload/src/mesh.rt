@@ -61,13 +61,11 @@ fn one_field(s: &[u8], p: usize, width: u32) -> u32
 
 // Stores the coordinate numbers of count vertices, which are known to be read whole, from place at on.
 fn fill_vertices(s: &[u8], p: usize, w: usize, limit: u32, count: u32, out: &mut [u16], at: usize)
-    requires { ⌜ (length (now s) ≤ 67108864) × (1 ≤ w) × (w ≤ 16) × (limit ≤ 65536) × (64 ≤ p) ⌝ }
-    requires { ⌜ at + 5 * count ≤ length (now out) ⌝ }
+    requires { ⌜ (length (now s) ≤ 67108864) × (w ≤ 16) × (limit ≤ 65536) × (64 ≤ p)
+        × (at + 5 * count ≤ length (now out)) × (1 ≤ w) × (1 ≤ count) ⌝ }
     requires { ⌜ WasRead (readRun (now s) w limit (5 * count) p (zeros 5)) ⌝ }
-    ensures numbers {
-        λ _. ⌜ now (out .exit)
-        ≡ sets (now (out .entry)) at (runNumbers (readRun (now (s .entry)) w limit (5 * count) p (zeros 5))) ⌝
-    }
+    ensures numbers { λ _. ⌜ now (out .exit)
+        ≡ sets (now (out .entry)) at (runNumbers (readRun (now (s .entry)) w limit (5 * count) p (zeros 5))) ⌝ }
 {
     let end = at + 5 * (count as usize);
     bits::fill_fives(s, p, w as u32, &mut out[at..end]);

@@ -17,7 +17,7 @@ use Rattle.payload.specs.Equi.{cropOf, fourWords, equiFields, equiUsable}
 use Rattle.payload.specs.Cbmp.{layoutThenPadding, cbmpRead}
 use Rattle.payload.specs.Sphere.{gridUsable}
 use Rattle.payload.specs.Cube.{cellsUsable, shareUsable}
-use Rattle.payload.specs.Run.{complete, readRun}
+use Rattle.bits.specs.Run.{complete, readRun}
 use Rattle.payload.specs.MeshRead.{inRange, many, readSubmesh, readSubmeshes, readWords, afterVertices, afterCounts, afterPoolCount, readMesh, readBoxes, readFrom}
 use Rattle.payload.specs.MeshDrawing.{drawnNumbers, drawnFloats, submeshWords, runWords, submeshRecords, recordsFrom}
 use Rattle.payload.proofs.PayloadLaws.{limited-no}

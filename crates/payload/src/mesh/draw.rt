@@ -23,10 +23,10 @@ ghost use lib.Seq.{sets};
 ghost use Rattle.bits.specs.Verdict.{needs, mapped};
 ghost use Rattle.bits.specs.Number.{widthOf};
 ghost use Rattle.payload.specs.Payload.{limited};
-ghost use Rattle.payload.specs.Run.{readRun, one};
+ghost use Rattle.bits.specs.Run.{lastOf};
 ghost use Rattle.payload.specs.MeshRead.{many, readSubmesh, readMesh, readMeshes};
 ghost use Rattle.payload.specs.MeshDrawing.{pointWords, runWords, submeshWords, submeshRecords, pointCount, recordsFrom, drawnNumbers, drawnFloats, drawnRecords};
-ghost use Rattle.payload.specs.Internal.{WasRead, runNumbers, poolWord, wordAt, wordIn, wordsFrom, Pooled, ExpandedFrom, submeshesRead, meshRead, boxMeshes, boxRead, meshesFrom, FillRoom, afterMeshes, recordWords, RecordRoom, afterRecords};
+ghost use Rattle.payload.specs.Internal.{WasRead, RunPlace, pointsOf, PointsPooled, PointsExpanded, PointsBelow, SomeOf, SomeRun, someNumbers, poolWord, wordAt, wordIn, wordsFrom, Pooled, ExpandedFrom, submeshesRead, meshRead, boxMeshes, boxRead, meshesFrom, FillRoom, afterMeshes, recordWords, RecordRoom, afterRecords};
 ghost use Rattle.payload.specs.Fill.{front};
 ghost use Rattle.payload.specs.Meshes.{drawnInto, meshesSays, meshesAnswer, recordsSays, recordsAnswer};
 
@@ -67,21 +67,12 @@ fn draw_point(
 }
 
 // Stores the words of some vertices, point by point.
-fn draw_points(
-    s: &[u8],
-    points: &[u16],
-    numbers: &[u16],
-    base: usize,
-    words: &mut [u32],
-    at: usize,
-)
+fn draw_points(s: &[u8], points: &[u16], numbers: &[u16], base: usize, words: &mut [u32], at: usize)
     requires { ⌜ length (now s) ≤ 67108864 ⌝ }
     requires { ⌜ PointsPooled (now s) (now numbers) base (now points) ⌝ }
     requires { ⌜ at + 5 * length (now points) ≤ length (now words) ⌝ }
-    ensures floats {
-        λ _. ⌜ now (words .exit)
-        ≡ sets (now (words .entry)) at (runWords (wordAt (now (s .entry)) (now (numbers .entry))) base (now (points .entry))) ⌝
-    }
+    ensures floats { λ _. ⌜ now (words .exit)
+        ≡ sets (now (words .entry)) at (runWords (wordAt (now (s .entry)) (now (numbers .entry))) base (now (points .entry))) ⌝ }
 {
     let mut i = 0;
     let mut to = at;
@@ -113,10 +104,8 @@ fn copy_point(words: &mut [u32], from: usize, off: usize)
 fn copy_points(points: &[u16], words: &mut [u32], expanded: usize, at: usize)
     requires { ⌜ PointsExpanded (now words) expanded (now points) ⌝ }
     requires { ⌜ at + 5 * length (now points) ≤ expanded ⌝ }
-    ensures floats {
-        λ _. ⌜ now (words .exit)
-        ≡ sets (now (words .entry)) at (runWords (wordIn (now (words .entry))) expanded (now (points .entry))) ⌝
-    }
+    ensures floats { λ _. ⌜ now (words .exit)
+        ≡ sets (now (words .entry)) at (runWords (wordIn (now (words .entry))) expanded (now (points .entry))) ⌝ }
 {
     let mut i = 0;
     let mut to = at;
@@ -140,14 +129,12 @@ fn put_points(
     m: u16,
 )
     requires { ⌜ length (now s) ≤ 67108864 ⌝ }
-    requires { ⌜ PointsPooled (now s) (now numbers) base (now points) ⌝ }
-    requires { ⌜ at + 5 * length (now points) ≤ length (now words) ⌝ }
     requires { ⌜ PointsBelow m (now points) ⌝ }
+    requires { ⌜ Pooled (now s) (now numbers) base (5 * m) ⌝ }
+    requires { ⌜ (at + 5 * length (now points) ≤ length (now words)) × (1 ≤ length (now points)) ⌝ }
     requires { ⌜ ExpandedFrom at (now s) (now numbers) base (5 * m) (now words) expanded ⌝ }
-    ensures floats {
-        λ _. ⌜ now (words .exit)
-        ≡ sets (now (words .entry)) at (runWords (wordAt (now (s .entry)) (now (numbers .entry))) base (now (points .entry))) ⌝
-    }
+    ensures floats { λ _. ⌜ now (words .exit)
+        ≡ sets (now (words .entry)) at (runWords (wordAt (now (s .entry)) (now (numbers .entry))) base (now (points .entry))) ⌝ }
 {
     if expanded < at + 5 * points.len() {
         draw_points(s, points, numbers, base, words, at);
@@ -178,23 +165,30 @@ fn draw_some(
     at: usize,
     expanded: usize,
 ) -> VertexNumber
-    requires { ⌜ SomeRun (now s) run × (run .count ≤ 32) ⌝ }
+    requires { ⌜ SomeRun (now s) run ⌝ }
     requires { ⌜ PointsBelow (run .limit) (someNumbers (now s) run (from .0)) ⌝ }
     requires { ⌜ Pooled (now s) (now numbers) base (5 * run .limit) ⌝ }
     requires { ⌜ at + 5 * run .count ≤ length (now words) ⌝ }
     requires { ⌜ ExpandedFrom at (now s) (now numbers) base (5 * run .limit) (now words) expanded ⌝ }
     ensures vertex { λ r. ⌜ r .0 ≡ lastOf (from .0) (someNumbers (now (s .entry)) run (from .0)) ⌝ }
-    ensures floats {
-        λ _. ⌜ now (words .exit)
+    ensures floats { λ _. ⌜ now (words .exit)
         ≡ sets (now (words .entry)) at
-        (runWords (wordAt (now (s .entry)) (now (numbers .entry))) base (someNumbers (now (s .entry)) run (from .0))) ⌝
-    }
+        (runWords (wordAt (now (s .entry)) (now (numbers .entry))) base (someNumbers (now (s .entry)) run (from .0))) ⌝ }
 {
     let n = run.count as usize;
     let width = bits::bit_width(run.limit as u32);
     let mut points = [0u16; 32];
     bits::fill_run(s, run.bit, width, from.0, &mut points[..n]);
-    put_points(s, &points[..n], numbers, base, words, at, expanded, run.limit);
+    put_points(
+        s,
+        &points[..n],
+        numbers,
+        base,
+        words,
+        at,
+        expanded,
+        run.limit,
+    );
     VertexNumber(points[n - 1])
 }
 
@@ -213,10 +207,8 @@ fn draw_run(
     requires { ⌜ Pooled (now s) (now numbers) base (5 * run .limit) ⌝ }
     requires { ⌜ at + 5 * run .count ≤ length (now words) ⌝ }
     requires { ⌜ ExpandedFrom at (now s) (now numbers) base (5 * run .limit) (now words) expanded ⌝ }
-    ensures floats {
-        λ _. ⌜ now (words .exit)
-        ≡ sets (now (words .entry)) at (runWords (wordAt (now (s .entry)) (now (numbers .entry))) base (pointsOf (now (s .entry)) run)) ⌝
-    }
+    ensures floats { λ _. ⌜ now (words .exit)
+        ≡ sets (now (words .entry)) at (runWords (wordAt (now (s .entry)) (now (numbers .entry))) base (pointsOf (now (s .entry)) run)) ⌝ }
 {
     let limit = run.limit;
     let step = bits::bit_width(limit as u32) as usize;
@@ -231,7 +223,16 @@ fn draw_run(
             limit,
             count: n as u32,
         };
-        last = draw_some(s, some, VertexNumber(last), numbers, base, words, to, expanded).0;
+        last = draw_some(
+            s,
+            some,
+            VertexNumber(last),
+            numbers,
+            base,
+            words,
+            to,
+            expanded,
+        ).0;
         to += 5 * n;
         bit += n * step;
         left -= n;
@@ -250,7 +251,7 @@ fn draw_submeshes(
     off: usize,
     expanded: usize,
 ) -> usize
-    requires { ⌜ (length (now s) ≤ 67108864) × (m ≤ 65536) × (64 ≤ p) × (off + 5 * pointCount (submeshesRead (many (readSubmesh (now s) (widthOf m) m) count p)) ≤ length (now words)) × Pooled (now s) (now numbers) base (5 * m) ⌝ }
+    requires { ⌜ (length (now s) ≤ 67108864) × (m ≤ 32000) × (64 ≤ p) × (off + 5 * pointCount (submeshesRead (many (readSubmesh (now s) (widthOf m) m) count p)) ≤ length (now words)) × Pooled (now s) (now numbers) base (5 * m) × (1 ≤ m) ⌝ }
     requires { ⌜ WasRead (many (readSubmesh (now s) (widthOf m) m) count p) × ExpandedFrom off (now s) (now numbers) base (5 * m) (now words) expanded ⌝ }
     ensures { λ r. ⌜ r ≡ off + 5 * pointCount (submeshesRead (many (readSubmesh (now (s .entry)) (widthOf m) m) count p)) ⌝ }
     ensures { λ _. ⌜ now (words .exit) ≡ sets (now (words .entry)) off (submeshWords (wordAt (now (s .entry)) (now (numbers .entry))) base (submeshesRead (many (readSubmesh (now (s .entry)) (widthOf m) m) count p))) ⌝ }
@@ -328,7 +329,7 @@ fn draw_expanded(
     words: &mut [u32],
     off: usize,
 ) -> usize
-    requires { ⌜ (length (now s) ≤ 67108864) × (m ≤ 65536) × (64 ≤ p) × (off + 5 * pointCount (submeshesRead (many (readSubmesh (now s) (widthOf m) m) count p)) ≤ length (now words)) × Pooled (now s) (now numbers) base (5 * m) ⌝ }
+    requires { ⌜ (length (now s) ≤ 67108864) × (m ≤ 32000) × (64 ≤ p) × (off + 5 * pointCount (submeshesRead (many (readSubmesh (now s) (widthOf m) m) count p)) ≤ length (now words)) × Pooled (now s) (now numbers) base (5 * m) × (1 ≤ m) ⌝ }
     requires { ⌜ WasRead (many (readSubmesh (now s) (widthOf m) m) count p) ⌝ }
     ensures { λ r. ⌜ r ≡ off + 5 * pointCount (submeshesRead (many (readSubmesh (now (s .entry)) (widthOf m) m) count p)) ⌝ }
     ensures { λ _. ⌜ now (words .exit) ≡ sets (now (words .entry)) off (submeshWords (wordAt (now (s .entry)) (now (numbers .entry))) base (submeshesRead (many (readSubmesh (now (s .entry)) (widthOf m) m) count p))) ⌝ }

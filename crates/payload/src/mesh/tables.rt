@@ -15,9 +15,8 @@ ghost use lib.ListN.{length};
 ghost use lib.Seq.{sets};
 ghost use Rattle.bits.specs.Verdict.{andThen};
 ghost use Rattle.bits.specs.Number.{widthOf};
-ghost use Rattle.payload.specs.Run.{readRun, one};
 ghost use Rattle.payload.specs.MeshRead.{many, readSubmesh, readWords, readMesh};
-ghost use Rattle.payload.specs.Internal.{WasRead, runNumbers, submeshesRead, meshRead};
+ghost use Rattle.payload.specs.Internal.{WasRead, RunPlace, pointsOf, submeshesRead, meshRead};
 ghost use Rattle.payload.specs.Tables.{submeshRows, allPoints, poolTable, coordinateTable, submeshTable, pointTable, bodyRead, tablesSays, tablesAnswer, tablesInto};
 
 // Stores the n pool words.
@@ -77,7 +76,7 @@ fn fill_run(s: &[u8], run: Run, out: &mut [u16], at: usize)
 
 // Stores the vertex numbers of the points of count submeshes from bit p on, over m vertices.
 fn fill_points(s: &[u8], p: usize, m: u32, count: u32, out: &mut [u16])
-    requires { ⌜ (length (now s) ≤ 67108864) × (m ≤ 65536) × (64 ≤ p) × (length (allPoints (submeshesRead (many (readSubmesh (now s) (widthOf m) m) count p))) ≤ length (now out)) ⌝ }
+    requires { ⌜ (length (now s) ≤ 67108864) × (m ≤ 32000) × (64 ≤ p) × (length (allPoints (submeshesRead (many (readSubmesh (now s) (widthOf m) m) count p))) ≤ length (now out)) × (1 ≤ m) ⌝ }
     requires { ⌜ WasRead (many (readSubmesh (now s) (widthOf m) m) count p) ⌝ }
     ensures { λ _. ⌜ now (out .exit) ≡ sets (now (out .entry)) 0 (allPoints (submeshesRead (many (readSubmesh (now (s .entry)) (widthOf m) m) count p))) ⌝ }
 {

@@ -11,9 +11,10 @@ ghost use Prim.Native.Nat.{_+_, _*_, _%_, _^_, _≤_, _<_};
 ghost use lib.ListN.{length, getD};
 ghost use lib.Seq.{sets};
 ghost use Rattle.bits.specs.Put.{bytesOf};
+ghost use Rattle.bits.specs.Run.{zeros};
 ghost use Rattle.payload.specs.Fill.{filledSays, answered, front};
 ghost use Rattle.payload.specs.MeshWrite.{stepField, wordFields, runFields, submeshFields, submeshesFields, vertexFields, boxSize, meshBox, submeshesOf, tablesMesh, isMesh, meshWritten};
-ghost use Rattle.payload.specs.Writing.{Ready, Advances, outcome, zeros, restFields, rowsFit};
+ghost use Rattle.payload.specs.Writing.{Ready, Advances, outcome, restFields, rowsFit};
 
 // The byte where the bits go that wait, and how many they are. They are the low bits of `held`; what stands above them is out already.
 struct BitWriter {

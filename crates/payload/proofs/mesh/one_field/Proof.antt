@@ -1,28 +1,30 @@
--- `one_field` meets its contract: the field ends the window. Assumes nothing.
-use Prim.Native.Nat.{_+_}
+-- `one_field` meets its contract: the read of a field that is there gives it. Assumes nothing.
+use mathlib.Core.Path.{_≡_, sym, ap, _∙_}
 use native.Mathlib.Omega.{arith}
-use Rattle.payload.specs.Internal.{narrowBits}
-use Rattle.payload.proofs.WindowLaws.{window-field}
+use Rattle.bits.specs.Read.{fieldSays}
+use Rattle.bits.proofs.ReadLaws.{known-value, known-whole}
 use borrow.Author.Needs.{needs}
 use Rattle.payload.proofs.mesh.one_field.Statement.{statement}
 use Rattle.payload.proofs.mesh.one_field.Tie as tie
 
-add-narrow-window : tie.Need-add-narrow-window
-add-narrow-window c = search needs
+read-requires : tie.Need-read-requires
+read-requires c κs = search needs
 
-narrow-window-requires : tie.Need-narrow-window-requires
-narrow-window-requires c κs = search needs
+enum-known-value : tie.Need-enum-known-value
+enum-known-value c = search needs
 
-bits-above-requires : tie.Need-bits-above-requires
-bits-above-requires c κs = search needs
+enum-told : tie.Need-enum-told
+enum-told c = search needs
 
 returns : tie.Need-returns
 returns c =
-    let a = c .before .before .before .args in
-    let x = c .before .narrow-window in
-    let q = a .p + a .w in
-    window-field (a .s .now) (a .p) (a .w) 0 q (narrowBits q) (x .result) _ (omega arith) (omega arith) (omega arith) (x .ensures) (c .bits-above .ensures)
+    let a = c .before .before .before .before .before .args in
+    known-value (a .s .now) (a .p) (a .width) _ _ (ap fieldSays (sym (c .before .value .given .1)) ∙ c .before .before .before .read .ensures)
+
+returns-2 : tie.Need-returns-2
+returns-2 c =
+    let a = c .before .before .before .before in
+    absurd (known-whole (a .args .s .now) (a .args .p) (a .args .width) (a .pre .0) (a .pre .2) (ap fieldSays (sym (c .enum-told .given .1)) ∙ c .before .before .read .ensures))
 
 pub one-field-spec : {M : Type 1} → statement M
-one-field-spec =
-    tie.close (tie.spec add-narrow-window narrow-window-requires bits-above-requires returns)
+one-field-spec = tie.close (tie.spec read-requires enum-known-value enum-told returns returns-2)

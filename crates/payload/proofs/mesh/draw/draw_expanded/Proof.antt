@@ -16,7 +16,7 @@ use Rattle.payload.proofs.mesh.draw.draw_expanded.Tie as tie
 draw-submeshes-requires : tie.Need-draw-submeshes-requires
 draw-submeshes-requires c κs =
     let a = c .before .before .before .before .before in
-    ((a .pre .0 .0, a .pre .0 .1, a .pre .0 .2, a .pre .0 .3, a .pre .0 .4), (a .pre .1, λ h. absurd (omega arith)))
+    ((a .pre .0 .0, a .pre .0 .1, a .pre .0 .2, a .pre .0 .3, a .pre .0 .4, a .pre .0 .5), (a .pre .1, λ h. absurd (omega arith)))
 
 same-length : tie.Need-same-length
 same-length c = search needs
@@ -33,7 +33,7 @@ mul-if2 c = search needs
 draw-submeshes-requires-2 : tie.Need-draw-submeshes-requires-2
 draw-submeshes-requires-2 c κs =
     let a = c .before .before .before .before .before .before .before in
-    ((a .pre .0 .0, a .pre .0 .1, a .pre .0 .2, a .pre .0 .3, a .pre .0 .4), (a .pre .1, λ h. absurd (omega arith)))
+    ((a .pre .0 .0, a .pre .0 .1, a .pre .0 .2, a .pre .0 .3, a .pre .0 .4, a .pre .0 .5), (a .pre .1, λ h. absurd (omega arith)))
 
 same-length-2 : tie.Need-same-length-2
 same-length-2 c = search needs
@@ -63,7 +63,7 @@ draw-submeshes-requires-3 c κs =
     let f = c .before .before .before .expand-vertices in
     let points = c .before .before .before .before .before .before .count-points in
     let room : x .off + 5 * (points .result - x .m) + 5 * x .m ≤ length (now (x .words)) = omega (arith, points .ensures) in (
-      (a .pre .0 .0, a .pre .0 .1, a .pre .0 .2, omega (arith, f .kept .1 .1 .1 .1 .0), a .pre .0 .4),
+      (a .pre .0 .0, a .pre .0 .1, a .pre .0 .2, omega (arith, f .kept .1 .1 .1 .1 .0), a .pre .0 .4, a .pre .0 .5),
       (a .pre .1, λ h. expanded-made (now (x .s)) (now (x .numbers)) (now (x .words)) _ (x .base) (5 * x .m) (x .off + 5 * (points .result - x .m)) room (f .ensures)),
     )
 

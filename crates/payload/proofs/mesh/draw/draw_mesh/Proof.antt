@@ -29,14 +29,14 @@ fill-vertices-requires c κs =
     let a = c .before .before .before .before .before .before in
     let K = known (c .before .before) in
     let r = mesh-room K (a .args .to) (length (now (a .args .numbers))) (length (now (a .args .words))) (a .pre .2) in
-    ((a .pre .0, omega (arith, K .narrow), omega (arith, K .n-most), omega arith, r .0), K .run)
+    ((a .pre .0, omega (arith, K .narrow), omega (arith, K .n-most), omega arith, r .0, K .wide, K .m-some), K .run)
 
 draw-expanded-requires : tie.Need-draw-expanded-requires
 draw-expanded-requires c κs =
     let a = c .before .before .before .before .before .before .before .before .before .before .before in
     let K = known (c .before .before .before .before .before .before .before) in
     let r = mesh-room K (a .args .to) (length (now (a .args .numbers))) (length (now (a .args .words))) (a .pre .2) in
-    ((a .pre .0, omega (arith, K .m-most), K .low, r .1, mesh-pooled K (now (a .args .numbers)) _ (a .args .to .base) (c .before .before .before .before .fill-vertices .ensures) (r .0)), K .each)
+    ((a .pre .0, omega (arith, K .m-most), K .low, r .1, mesh-pooled K (now (a .args .numbers)) _ (a .args .to .base) (c .before .before .before .before .fill-vertices .ensures) (r .0), K .m-some), K .each)
 
 cast-t11 : tie.Need-cast-t11
 cast-t11 c = search needs

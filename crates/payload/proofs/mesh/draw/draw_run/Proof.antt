@@ -1,143 +1,130 @@
--- `mesh::draw::draw_run` meets its contract. The invariant: storing the words of the points that are left gives the same as storing all at first. Assumes nothing.
-use mathlib.Core.Path.{refl, sym, _∙_}
+-- `draw_run` meets its contract: storing the words of the points that are left gives what storing all at first gives. Assumes nothing.
+use Prim.Native.Nat.{ℕ, _+_, _*_, _≤_}
+use mathlib.Core.Path.{_≡_, refl, sym, ap, _∙_}
 use mathlib.Core.List.{[], _∷_}
-use Prim.Native.Nat.{_+_, _-_}
 use native.Mathlib.Omega.{arith}
+use lib.ListN.{length}
 use lib.Seq.{sets}
-use denote.Ref.{now}
-use Rattle.payload.specs.Run.{readRun}
+use Rattle.bits.specs.Number.{widthOf}
+use Rattle.bits.specs.Run.{readRun, summed}
+use Rattle.bits.proofs.SummedLaws.{length-summed}
 use Rattle.payload.specs.MeshDrawing.{runWords}
-use Rattle.payload.specs.Internal.{runNumbers, wordAt}
-use Rattle.payload.proofs.StepLaws.{Turn, Got3, got, got3, stepped-at, reached}
-use Rattle.payload.proofs.DrawLaws.{RunLeft, pooled-point, three-first}
+use Rattle.payload.specs.Internal.{runNumbers, wordAt, ExpandedFrom}
+use Rattle.payload.proofs.DrawLaws.{run-none, RunLeft, NextPoints, next-points, numbers-end, run-left-on}
+use Rattle.payload.proofs.ExpandedLaws.{expanded-after-run}
 use borrow.Author.Needs.{needs}
 use Rattle.payload.proofs.mesh.draw.draw_run.Statement.{statement}
 use Rattle.payload.proofs.mesh.draw.draw_run.Tie as tie
 
 abbrev Inv-loop : tie.InvT-loop
-Inv-loop s p w m count numbers base words₀ off bit₀ last₀ left₀ o₀ words bit last left o = RunLeft s w m numbers base words₀ (sets words₀ off (runWords (wordAt s numbers) base (runNumbers (readRun s w m count p (last₀ ∷ []))))) words bit last left o
+Inv-loop s numbers base words₀ at expanded limit step bit₀ last₀ left₀ to₀ words bit last left to =
+    RunLeft s (widthOf limit) limit numbers base words₀
+    (sets words₀ at (runWords (wordAt s numbers) base (runNumbers (readRun s (widthOf limit) limit left₀ bit₀ (last₀ ∷ []))))) words bit last left to
+    × ExpandedFrom to s numbers base (5 * limit) words expanded × (to + 5 * left ≡ at + 5 * left₀)
 
 abbrev μ-loop : tie.MeasureT-loop
-μ-loop s p w m count numbers base words₀ off bit₀ last₀ left₀ o₀ words bit last left o = left
+μ-loop s numbers base words₀ at expanded limit step bit₀ last₀ left₀ to₀ words bit last left to = left
+
+cast-bit-width : tie.Need-cast-bit-width Inv-loop μ-loop
+cast-bit-width c = search needs
+
+bit-width-requires : tie.Need-bit-width-requires Inv-loop μ-loop
+bit-width-requires c κs = search needs
+
+cast-step : tie.Need-cast-step Inv-loop μ-loop
+cast-step c = search needs
+
+cast-left : tie.Need-cast-left Inv-loop μ-loop
+cast-left c = search needs
+
+-- the next points of the run
+points : (n : tie.After-some-of Inv-loop μ-loop)
+    → let a = n .before .before .before .before .before .before .before .before .args in
+    let l = n .before .before .loop in
+    NextPoints (a .s .now) (widthOf (a .run .limit)) (a .run .limit) (l .left) (l .bit) (l .last) (n .some-of .result)
+points n =
+    let i = n .before in
+    let e = i .before .before .before .before .before .before .before in
+    let l = i .before .loop in
+    let k = n .some-of .ensures in
+    next-points (e .args .s .now) (widthOf (e .args .run .limit)) (e .args .run .limit) (l .left) (l .bit) (l .last) (n .some-of .result) (omega (arith, e .pre .0 .most)) (k .some (i .loop-test .taken)) (k .most) (l .inv .0 .read)
+
+-- their bits
+wide : (n : tie.After-some-of Inv-loop μ-loop)
+    → n .some-of .result * n .before .before .before .before .bit-width .result ≡ n .some-of .result * widthOf (n .before .before .before .before .before .before .before .before .args .run .limit)
+wide n = ap (λ (w : ℕ). n .some-of .result * w) (n .before .before .before .before .bit-width .ensures)
 
 loop-holds : tie.Need-loop-holds Inv-loop μ-loop
-loop-holds c = record { same = refl; read = c .before .before .before .pre .1; room = omega arith; long = refl; small = omega arith; low = omega arith }
+loop-holds c =
+    let e = c .before .before .before .before .before in
+    let q = e .pre in
+    (record { same = refl; read = q .0 .read; room = omega (arith, q .1 .1 .0); long = refl; small = omega arith; low = q .0 .low }, q .1 .1 .1, refl)
 
--- the numbers that were made are those that the run has there
-first : (n : tie.After-stepped Inv-loop μ-loop)
-    → Turn (now (n .before .before .before .before .before .before .before .args .s)) (n .before .before .before .before .before .before .before .args .w) (n .before .before .before .before .before .before .before .args .m) (n .before .before .before .loop .left) (n .before .before .before .loop .bit) (n .before .before .before .loop .last ∷ []) (n .stepped .result)
-first n =
-    let a = n .before .before .before .before .before .before .before .args in
-    let l = n .before .before .before .loop in
-    got (now (a .s)) (a .w) (a .m) (l .left) (l .bit) (l .last) [] (n .stepped .result) (omega arith) (l .inv .read)
-    (stepped-at (l .last) _ _ _ (n .before .three-fields .ensures .0) (n .stepped .ensures))
+some-of-requires : tie.Need-some-of-requires Inv-loop μ-loop
+some-of-requires c κs = search needs
 
-second : (n : tie.After-stepped2 Inv-loop μ-loop)
-    → Turn (now (n .before .before .before .before .before .before .before .before .args .s)) (n .before .before .before .before .before .before .before .before .args .w) (n .before .before .before .before .before .before .before .before .args .m) (n .before .before .before .before .loop .left - 1) (n .before .before .before .before .loop .bit + n .before .before .before .before .before .before .before .before .args .w) (n .before .stepped .result ∷ []) (n .stepped2 .result)
-second n =
-    let a = n .before .before .before .before .before .before .before .before .args in
-    let l = n .before .before .before .before .loop in
-    got (now (a .s)) (a .w) (a .m) (l .left - 1) (l .bit + a .w) (n .before .stepped .result) [] (n .stepped2 .result) (omega arith) (first (n .before) .rest)
-    (stepped-at (n .before .stepped .result) _ _ _ (n .before .before .three-fields .ensures .1) (n .stepped2 .ensures))
+cast-t19 : tie.Need-cast-t19 Inv-loop μ-loop
+cast-t19 c = omega (arith, c .some-of .ensures .few)
 
-gets : (n : tie.After-stepped3 Inv-loop μ-loop)
-    → Got3 (now (n .before .before .before .before .before .before .before .before .before .args .s)) (n .before .before .before .before .before .before .before .before .before .args .w) (n .before .before .before .before .before .before .before .before .before .args .m) (n .before .before .before .before .before .loop .left) (n .before .before .before .before .before .loop .bit) (n .before .before .before .before .before .loop .last)
-    (n .before .before .stepped .result) (n .before .stepped2 .result) (n .stepped3 .result)
-gets n =
-    let a = n .before .before .before .before .before .before .before .before .before .args in
-    let l = n .before .before .before .before .before .loop in
-    let f = n .before .before .before .three-fields .ensures in
-    got3 (now (a .s)) (a .w) (a .m) (l .left) (l .bit) (l .last) (n .before .before .stepped .result) (n .before .stepped2 .result) (n .stepped3 .result) (omega arith) (l .inv .read)
-    (stepped-at (l .last) _ _ _ (f .0) (n .before .before .stepped .ensures))
-    (stepped-at (n .before .before .stepped .result) _ _ _ (f .1) (n .before .stepped2 .ensures))
-    (stepped-at (n .before .stepped2 .result) _ _ _ (f .2) (n .stepped3 .ensures))
-
-three-fields-requires : tie.Need-three-fields-requires Inv-loop μ-loop
-three-fields-requires c κs =
-    let a = c .before .before .before .before .before .args in
-    let l = c .before .loop in
-    let r = reached (now (a .s)) (a .w) (a .m) 3 (l .left) (l .bit) (l .last ∷ []) (omega arith) (omega arith) (l .inv .read) in
-    omega (arith, l .inv .low)
-
-cast-stepped : tie.Need-cast-stepped Inv-loop μ-loop
-cast-stepped c = omega (arith, c .before .before .loop .inv .small)
-
-stepped-requires : tie.Need-stepped-requires Inv-loop μ-loop
-stepped-requires c κs = search needs
-
-cast-a : tie.Need-cast-a Inv-loop μ-loop
-cast-a c = omega (arith, first c .below)
-
-cast-stepped-2 : tie.Need-cast-stepped-2 Inv-loop μ-loop
-cast-stepped-2 c = omega (arith, first c .below)
-
-stepped-requires-2 : tie.Need-stepped-requires-2 Inv-loop μ-loop
-stepped-requires-2 c κs = search needs
-
-cast-b : tie.Need-cast-b Inv-loop μ-loop
-cast-b c = omega (arith, second c .below)
-
-cast-stepped-3 : tie.Need-cast-stepped-3 Inv-loop μ-loop
-cast-stepped-3 c = omega (arith, second c .below)
-
-stepped-requires-3 : tie.Need-stepped-requires-3 Inv-loop μ-loop
-stepped-requires-3 c κs = search needs
-
-cast-last : tie.Need-cast-last Inv-loop μ-loop
-cast-last c = omega (arith, gets c .below)
-
-draw-three-requires : tie.Need-draw-three-requires Inv-loop μ-loop
-draw-three-requires c κs =
+draw-some-requires : tie.Need-draw-some-requires Inv-loop μ-loop
+draw-some-requires c κs =
     let n = c .before in
-    let a = n .before .before .before .before .before .before .before .before .before in
-    let l = n .before .before .before .before .before .loop in
-    let g = gets n in
-    (a .pre .0 .0, omega (arith, l .inv .room), pooled-point _ (g .below .0) (a .pre .0 .5), pooled-point _ (g .below .1) (a .pre .0 .5), pooled-point _ (g .below .2) (a .pre .0 .5))
+    let i = n .before in
+    let e = i .before .before .before .before .before .before .before in
+    let q = e .pre in
+    let l = i .before .loop in
+    let k = n .some-of .ensures in
+    let N = points n in (
+      record { short = q .0 .short; low = l .inv .0 .low; some = q .0 .some; most = q .0 .most; points = k .some (i .loop-test .taken); few = k .few; whole = N .whole },
+      (N .below, (q .1 .0, (omega (arith, l .inv .0 .room, k .most), l .inv .1))),
+    )
 
-add-o : tie.Need-add-o Inv-loop μ-loop
-add-o c = omega (arith, c .before .before .before .before .before .before .before .before .before .loop .inv .room)
+mul-to : tie.Need-mul-to Inv-loop μ-loop
+mul-to c = omega (arith, c .before .before .before .before .some-of .ensures .few)
+
+add-to : tie.Need-add-to Inv-loop μ-loop
+add-to c =
+    let n = c .before .before .before .before in
+    let e = n .before .before .before .before .before .before .before .before in
+    omega (arith, n .some-of .ensures .most, n .before .before .loop .inv .2, e .pre .1 .1 .0)
 
 mul-bit : tie.Need-mul-bit Inv-loop μ-loop
-mul-bit c = omega arith
+mul-bit c = let n = c .before .before .before .before in omega (arith, wide n, points n .whole, n .before .before .before .before .before .before .before .before .pre .0 .short)
 
 add-bit : tie.Need-add-bit Inv-loop μ-loop
-add-bit c = omega (arith, gets (c .before .before .before .before) .room)
+add-bit c = let n = c .before .before .before .before in omega (arith, wide n, points n .whole, n .before .before .before .before .before .before .before .before .pre .0 .short)
+
+sub-left : tie.Need-sub-left Inv-loop μ-loop
+sub-left c = omega (arith, c .before .before .before .before .some-of .ensures .most)
 
 loop-less : tie.Need-loop-less Inv-loop μ-loop
-loop-less c = omega arith
+loop-less c = let n = c .before .before .before .before in omega (arith, n .some-of .ensures .most, n .some-of .ensures .some (n .before .loop-test .taken))
 
 loop-again : tie.Need-loop-again Inv-loop μ-loop
 loop-again c =
-    let d = c .before .before in
-    let n = d .before .before in
-    let e = n .before .before .before .before .before .before .before .before .before in
+    let u = c .before .before .draw-some in
+    let n = c .before .before .before .before in
+    let i = n .before in
+    let e = i .before .before .before .before .before .before .before in
     let a = e .args in
-    let l = n .before .before .before .before .before .loop in
-    let g = gets n in
-    record {
-      same = l .inv .same ∙ three-first (wordAt (now (a .s)) (now (a .numbers))) (a .base) (n .before .before .stepped .result) (n .before .stepped2 .result) (n .stepped3 .result) _ _ (l .words) (l .o) (g .is) ∙ rw (d .draw-three .ensures);
-      read = g .rest;
-      room = omega (arith, d .draw-three .kept, l .inv .room);
-      long = d .draw-three .kept .1 .1 .1 .1 .1 .1 .0 ∙ l .inv .long;
-      small = omega (arith, g .below, e .pre .0 .2);
-      low = omega (arith, l .inv .low);
-    }
-
-draw-run-left-requires : tie.Need-draw-run-left-requires Inv-loop μ-loop
-draw-run-left-requires c κs =
-    let a = c .before .before .before .before .before .before in
-    let l = c .before .before .loop in
-    ((a .pre .0 .0, a .pre .0 .1, a .pre .0 .2, l .inv .low, l .inv .room, a .pre .0 .5), l .inv .read)
+    let l = i .before .loop in
+    let k = n .some-of in
+    let f = wordAt (a .s .now) (a .numbers .now) in
+    let t = summed (a .s .now) (widthOf (a .run .limit)) (k .result) (l .bit) (l .last ∷ []) in (
+      run-left-on (l .inv .0) (k .result) _ _ _ (omega (arith, e .pre .0 .most)) (k .ensures .most) (points n) (u .ensures .0) (ap (λ (x : ℕ). l .bit + x) (wide n)) (u .ensures .1) (u .kept .1 .1 .1 .1 .1 .0),
+      expanded-after-run f (a .base) (l .words) _ (l .to) (k .result) t (u .ensures .1) (length-summed (a .s .now) (widthOf (a .run .limit)) (k .result) (l .bit) (l .last ∷ [])) (l .inv .1),
+      omega (arith, l .inv .2, k .ensures .most),
+    )
 
 same-length : tie.Need-same-length Inv-loop μ-loop
-same-length c =
-    let d = c .before .before in
-    d .draw-run-left .kept .1 .1 .1 .1 .1 .1 .1 .1 .0 ∙ d .before .before .before .loop .inv .long
+same-length c = c .before .loop .inv .0 .long
 
 returns : tie.Need-returns Inv-loop μ-loop
 returns c =
-    let d = c .before .before in
-    d .draw-run-left .ensures ∙ sym (d .before .before .before .loop .inv .same)
+    let a = c .before .before .before .before .before .before .before .args in
+    let l = c .before .loop in
+    let z = numbers-end (a .s .now) (widthOf (a .run .limit)) (a .run .limit) (l .left) (l .bit) (l .last ∷ []) (omega arith) in
+    sym (l .inv .0 .same ∙ ap (sets (l .words) (l .to)) (run-none (wordAt (a .s .now) (a .numbers .now)) (a .base) _ z))
 
 pub draw-run-spec : {M : Type 1} → statement M
 draw-run-spec =
@@ -145,23 +132,20 @@ draw-run-spec =
     (tie.spec
     Inv-loop
     μ-loop
+    cast-bit-width
+    bit-width-requires
+    cast-step
+    cast-left
     loop-holds
-    three-fields-requires
-    cast-stepped
-    stepped-requires
-    cast-a
-    cast-stepped-2
-    stepped-requires-2
-    cast-b
-    cast-stepped-3
-    stepped-requires-3
-    cast-last
-    draw-three-requires
-    add-o
+    some-of-requires
+    cast-t19
+    draw-some-requires
+    mul-to
+    add-to
     mul-bit
     add-bit
+    sub-left
     loop-less
     loop-again
-    draw-run-left-requires
     same-length
     returns)

@@ -9,9 +9,11 @@ use denote.Ref.{now}
 use Rattle.bits.specs.Number.{widthOf}
 use Rattle.payload.specs.Mesh.{Submesh}
 use Rattle.payload.specs.MeshRead.{many, readSubmesh}
-use Rattle.payload.specs.MeshDrawing.{submeshWords, pointCount}
-use Rattle.payload.specs.Internal.{wordAt, ExpandedFrom, submeshesRead}
+use Rattle.bits.specs.Run.{zeros, readRun}
+use Rattle.payload.specs.MeshDrawing.{runWords, submeshWords, pointCount}
+use Rattle.payload.specs.Internal.{runNumbers, wordAt, ExpandedFrom, submeshesRead}
 use Rattle.payload.proofs.TurnLaws.{SubmeshTurn, SubmeshesLeft, submeshes-left, left-turn, left-room, left-on, submeshes-end, points-first}
+use Rattle.payload.proofs.PartLaws.{read-at-width, stored-at-width}
 use Rattle.payload.proofs.DrawLaws.{submesh-drawn, submesh-words-none}
 use Rattle.payload.proofs.ExpandedLaws.{expanded-after-run}
 use borrow.Author.Needs.{needs}
@@ -45,7 +47,7 @@ loop-holds c =
     let a = c .before .before .before .before in
     let e = c .bit-width .ensures in
     record {
-      go = submeshes-left (now (a .args .s)) (c .bit-width .result) (a .args .m) (a .args .count) (a .args .p) e (a .pre .0 .1) (a .pre .0 .2) (a .pre .1 .0);
+      go = submeshes-left (now (a .args .s)) (c .bit-width .result) (a .args .m) (a .args .count) (a .args .p) e (omega (arith, a .pre .0 .1)) (a .pre .0 .2) (a .pre .1 .0);
       same = rw e;
       place = rw e;
       room = rw e (a .pre .0 .3);
@@ -67,16 +69,31 @@ add-one-field c = omega (arith, left-room (c .before .loop .inv .go) (omega arit
 one-field-requires : tie.Need-one-field-requires Inv-loop μ-loop
 one-field-requires c κs = let l = c .before .loop .inv .go in omega (arith, left-room l (omega arith), l .low)
 
-add-copy-run : tie.Need-add-copy-run Inv-loop μ-loop
-add-copy-run c = omega (arith, known c .1 .ends)
+add-o : tie.Need-add-o Inv-loop μ-loop
+add-o c = omega (arith, known c .1 .ends)
 
-copy-run-requires : tie.Need-copy-run-requires Inv-loop μ-loop
-copy-run-requires c κs =
+cast-t19 : tie.Need-cast-t19 Inv-loop μ-loop
+cast-t19 c = omega (arith, c .before .before .before .before .before .before .before .pre .0 .1)
+
+draw-run-requires : tie.Need-draw-run-requires Inv-loop μ-loop
+draw-run-requires c κs =
     let d = c .before in
     let a = d .before .before .before .before .before .before .before in
-    let l = d .before .before .loop .inv in
+    let x = a .args in
+    let q = a .pre .0 in
+    let l = d .before .before .loop in
     let t = known d in
-    ((a .pre .0 .0, l .go .narrow, l .go .most, omega (arith, l .go .low), fits d, a .pre .0 .4), (rw (t .1 .run) tt, l .vertices))
+    let w = d .before .before .before .bit-width in (
+      record {
+        short = q .0;
+        low = omega (arith, l .inv .go .low);
+        some = q .5;
+        most = q .1;
+        points = t .1 .some;
+        read = read-at-width (now (x .s)) (w .result) (widthOf (x .m)) (x .m) (d .one-field .result) (l .bit + 48) (zeros 1) _ (w .ensures) (t .1 .run);
+      },
+      (q .4, (fits d, l .inv .vertices)),
+    )
 
 cast-o : tie.Need-cast-o Inv-loop μ-loop
 cast-o c = search needs
@@ -84,8 +101,8 @@ cast-o c = search needs
 mul-o : tie.Need-mul-o Inv-loop μ-loop
 mul-o c = omega (arith, fits (c .before .before .before .before))
 
-add-o : tie.Need-add-o Inv-loop μ-loop
-add-o c = omega (arith, fits (c .before .before .before .before))
+add-o-2 : tie.Need-add-o-2 Inv-loop μ-loop
+add-o-2 c = omega (arith, fits (c .before .before .before .before))
 
 cast-bit : tie.Need-cast-bit Inv-loop μ-loop
 cast-bit c = search needs
@@ -111,17 +128,20 @@ loop-again c =
     let r = d .before .before in
     let a = r .before .before .before .before .before .before .before .args in
     let l = r .before .before .loop in
-    let w = r .before .before .before .bit-width .result in
+    let b = r .before .before .before .bit-width in
+    let w = b .result in
     let t = known r in
     let p = points-first (t .0) _ _ (t .1 .is) in
+    let f = wordAt (now (a .s)) (now (a .numbers)) in
+    let k = r .one-field .result in
+    let u = stored-at-width w (widthOf (a .m)) (λ (x : ℕ). sets (l .words) (l .o) (runWords f (a .base) (runNumbers (readRun (now (a .s)) x (a .m) k (l .bit + 48) (zeros 1))))) _ (b .ensures) (d .draw-run .ensures) in
     record {
-      go = left-on (l .inv .go) (r .one-field .result) (t .0) (t .1);
-      same = l .inv .same
-          ∙ submesh-drawn (wordAt (now (a .s)) (now (a .numbers))) (a .base) (now (a .s)) w (a .m) (l .left) (l .bit) (r .one-field .result) (t .0) (l .words) _ (l .o) (t .1) (d .copy-run .ensures);
+      go = left-on (l .inv .go) k (t .0) (t .1);
+      same = l .inv .same ∙ submesh-drawn f (a .base) (now (a .s)) w (a .m) (l .left) (l .bit) k (t .0) (l .words) _ (l .o) (t .1) u;
       place = l .inv .place ∙ omega (arith, p, t .1 .count);
-      room = omega (arith, l .inv .room, p, t .1 .count, d .copy-run .kept .1 .1 .1 .1 .1 .1 .1 .0);
-      long = d .copy-run .kept .1 .1 .1 .1 .1 .1 .1 .0 ∙ l .inv .long;
-      vertices = expanded-after-run (wordAt (now (a .s)) (now (a .numbers))) (a .base) (l .words) _ (l .o) (r .one-field .result) _ (d .copy-run .ensures) (rw (t .1 .run) (sym (t .1 .count))) (l .inv .vertices);
+      room = omega (arith, l .inv .room, p, t .1 .count, d .draw-run .kept .1 .1 .1 .1 .0);
+      long = d .draw-run .kept .1 .1 .1 .1 .0 ∙ l .inv .long;
+      vertices = expanded-after-run f (a .base) (l .words) _ (l .o) k _ u (rw (t .1 .run) (sym (t .1 .count))) (l .inv .vertices);
     }
 
 same-length : tie.Need-same-length Inv-loop μ-loop
@@ -146,11 +166,12 @@ draw-submeshes-spec =
     loop-holds
     add-one-field
     one-field-requires
-    add-copy-run
-    copy-run-requires
+    add-o
+    cast-t19
+    draw-run-requires
     cast-o
     mul-o
-    add-o
+    add-o-2
     cast-bit
     mul-bit
     add-bit

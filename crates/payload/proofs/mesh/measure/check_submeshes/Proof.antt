@@ -6,6 +6,7 @@ use lib.ListN.{length}
 use Rattle.bits.specs.Verdict.{mapped}
 use Rattle.payload.specs.MeshRead.{many, readSubmesh}
 use Rattle.payload.specs.Internal.{submeshesSize, submeshSays}
+use Rattle.payload.proofs.RangeLaws.{width-some}
 use Rattle.payload.proofs.CheckLaws.{submesh-end, counted, counted-all, counted-end, counted-declined, counted-on}
 use borrow.Author.Needs.{needs}
 use Rattle.payload.proofs.mesh.measure.check_submeshes.Statement.{statement}
@@ -47,7 +48,8 @@ after c =
     let b = c .before .before .before in
     let a = b .before .before .before .before .args in
     let l = b .before .before .loop in
-    submesh-end (a .s .now) (a .w) (a .m) (l .bit) _ _ (omega arith) (ap submeshSays (sym (c .before .n .given .1)) ∙ b .check-submesh .ensures)
+    let q = b .before .before .before .before .pre in
+    submesh-end (a .s .now) (a .w) (a .m) (l .bit) _ _ (rw (q .wide) (width-some (a .m) (q .some))) (ap submeshSays (sym (c .before .n .given .1)) ∙ b .check-submesh .ensures)
 
 add-points : tie.Need-add-points Inv-loop μ-loop
 add-points c = omega (arith, after c)

@@ -6,11 +6,12 @@ use native.Mathlib.Omega.{arith}
 use lib.ListN.{length}
 use lib.Seq.{sets}
 use Rattle.bits.specs.Number.{widthOf}
+use Rattle.bits.specs.Run.{zeros, readRun}
 use Rattle.payload.specs.Mesh.{Submesh}
 use Rattle.payload.specs.MeshRead.{many, readSubmesh}
-use Rattle.payload.specs.Internal.{submeshesRead}
+use Rattle.payload.specs.Internal.{runNumbers, submeshesRead}
 use Rattle.payload.specs.Tables.{allPoints}
-use Rattle.payload.proofs.StepLaws.{was-read}
+use Rattle.payload.proofs.PartLaws.{read-at-width, stored-at-width}
 use Rattle.payload.proofs.TurnLaws.{SubmeshTurn, SubmeshesLeft, submeshes-left, left-turn, left-room, left-on, submeshes-end}
 use Rattle.payload.proofs.TableLaws.{points-none, points-turn, points-split}
 use borrow.Author.Needs.{needs}
@@ -54,21 +55,36 @@ add-one-field c = let h = header c in omega arith
 one-field-requires : tie.Need-one-field-requires Inv-loop μ-loop
 one-field-requires c κs = let h = header c in omega arith
 
-add-fill-run : tie.Need-add-fill-run Inv-loop μ-loop
-add-fill-run c = let h = header (c .before) in omega arith
+add-o : tie.Need-add-o Inv-loop μ-loop
+add-o c = let h = header (c .before) in omega arith
+
+cast-t15 : tie.Need-cast-t15 Inv-loop μ-loop
+cast-t15 c = omega (arith, c .before .before .before .before .before .before .pre .0 .1)
 
 fill-run-requires : tie.Need-fill-run-requires Inv-loop μ-loop
 fill-run-requires c κs =
-    let L = c .before .before .before .loop .inv .left-read in
-    let t = next (c .before) in
-    let z = points-split (t .1) in
-    ((omega arith, omega (arith, L .narrow), omega arith, omega (arith, L .low), omega arith), was-read _ _ (t .1 .run))
+    let d = c .before in
+    let e = d .before .before .before .before .before .before in
+    let L = d .before .before .loop .inv .left-read in
+    let w = d .before .before .before .bit-width .ensures in
+    let t = next d in
+    let z = points-split (t .1) in (
+      record {
+        short = e .pre .0 .0;
+        low = omega (arith, L .low);
+        some = e .pre .0 .4;
+        most = e .pre .0 .1;
+        points = t .1 .some;
+        read = read-at-width (e .args .s .now) _ (widthOf (e .args .m)) (e .args .m) (d .one-field .result) (d .before .before .loop .bit + 48) (zeros 1) _ w (t .1 .run);
+      },
+      omega arith,
+    )
 
 cast-o : tie.Need-cast-o Inv-loop μ-loop
 cast-o c = omega arith
 
-add-o : tie.Need-add-o Inv-loop μ-loop
-add-o c = let z = points-split (next (c .before .before .before .before) .1) in omega arith
+add-o-2 : tie.Need-add-o-2 Inv-loop μ-loop
+add-o-2 c = let z = points-split (next (c .before .before .before .before) .1) in omega arith
 
 cast-bit : tie.Need-cast-bit Inv-loop μ-loop
 cast-bit c = omega arith
@@ -94,11 +110,13 @@ loop-again c =
     let u = c .before .before .fill-run in
     let t = next (c .before .before .before .before) in
     let z = points-split (t .1) in
+    let w = c .before .before .before .before .before .before .before .bit-width .ensures in
+    let e = c .before .before .before .before .before .before .before .before .before .before in
     record {
-      same = l .inv .same ∙ points-turn (t .1) (l .out) (u .last .1 .1 .1 .1 .1 .0) (l .o) (u .ensures);
+      same = l .inv .same ∙ points-turn (t .1) (l .out) (u .last .1 .1 .0) (l .o) (stored-at-width _ (widthOf (e .args .m)) (λ (x : ℕ). sets (l .out) (l .o) (runNumbers (readRun (e .args .s .now) x (e .args .m) (c .before .before .before .before .one-field .result) (l .bit + 48) (zeros 1)))) _ w (u .ensures));
       left-read = left-on (l .inv .left-read) _ (t .0) (t .1);
-      room = omega (arith, u .kept .1 .1 .1 .1 .1 .0);
-      long = u .kept .1 .1 .1 .1 .1 .0 ∙ l .inv .long;
+      room = omega (arith, u .kept .1 .1 .0);
+      long = u .kept .1 .1 .0 ∙ l .inv .long;
     }
 
 same-length : tie.Need-same-length Inv-loop μ-loop
@@ -121,10 +139,11 @@ fill-points-spec =
     loop-holds
     add-one-field
     one-field-requires
-    add-fill-run
+    add-o
+    cast-t15
     fill-run-requires
     cast-o
-    add-o
+    add-o-2
     cast-bit
     mul-bit
     add-bit

@@ -41,7 +41,7 @@ fill-vertices-requires : tie.Need-fill-vertices-requires
 fill-vertices-requires c κs =
     let p = c .before .before .before .before .before .before .before .before .before .before .before .before .pre in
     let K = known (c .before .before .before .before .before .before) in
-    ((p .0, omega (arith, K .narrow), omega (arith, K .n-most), omega arith, omega (arith, K .fives, p .3)), K .run)
+    ((p .0, omega (arith, K .narrow), omega (arith, K .n-most), omega arith, omega (arith, K .fives, p .3), K .wide, K .m-some), K .run)
 
 fill-rows-requires : tie.Need-fill-rows-requires
 fill-rows-requires c κs =
@@ -53,7 +53,7 @@ fill-points-requires : tie.Need-fill-points-requires
 fill-points-requires c κs =
     let p = c .before .before .before .before .before .before .before .before .before .before .before .before .before .before .before .before .before .before .before .before .pre in
     let K = known (c .before .before .before .before .before .before .before .before .before .before .before .before .before .before) in
-    ((p .0, omega (arith, K .m-most), K .low, omega (arith, ap (λ (l : List Submesh). length (allPoints l)) (K .are), p .5)), K .each)
+    ((p .0, omega (arith, K .m-most), K .low, omega (arith, ap (λ (l : List Submesh). length (allPoints l)) (K .are), p .5), K .m-some), K .each)
 
 same-length : tie.Need-same-length
 same-length c = search needs

@@ -5,7 +5,7 @@ use native.Mathlib.Omega.{arith}
 use lib.ListN.{length, drop}
 use borrow.Author.Needs.{needs}
 use Rattle.payload.specs.MeshWrite.{runFields}
-use Rattle.payload.specs.Writing.{zeros}
+use Rattle.bits.specs.Run.{zeros}
 use Rattle.payload.proofs.PutRunLaws.{coded, coded-end, past-long, run-coded, run-next, zeros-some}
 use Rattle.payload.proofs.WriterLaws.{Underway, first-ready, on-first, on-start}
 use Rattle.payload.proofs.mesh.write.put_run.Statement.{statement}
