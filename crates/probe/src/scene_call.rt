@@ -4,7 +4,8 @@ use super::reply::tell;
 use super::reply::word;
 use scene::SceneAnswer;
 ghost use mathlib.Core.Path.{_≡_};
-ghost use Rattle.scene.specs.Scene.{call, sceneAnswer, numbersAfter, floatsAfter, recordsAfter, sceneSays};
+ghost use mathlib.Core.List.{[], _∷_};
+ghost use Rattle.scene.specs.Scene.{call, sceneAnswer, sceneLeaves, sceneSays};
 ghost use Rattle.probe.specs.Answer.{answers, leaves, told, says};
 ghost use Rattle.probe.specs.Scene.{sceneWords};
 
@@ -69,12 +70,8 @@ pub extern "C" fn probe_scene(
         (sceneAnswer (call kind payload rings sectors cells radius «face_width» numbers floats records))) ⌝ }
     ensures words { λ _. ⌜ now (words .exit) ≡ leaves (now (words .entry)) (told sceneWords
         (sceneAnswer (call kind payload rings sectors cells radius «face_width» numbers floats records))) ⌝ }
-    ensures numbers { λ _. ⌜ now (numbers .exit)
-        ≡ numbersAfter (call kind payload rings sectors cells radius «face_width» numbers floats records) ⌝ }
-    ensures floats { λ _. ⌜ now (floats .exit)
-        ≡ floatsAfter (call kind payload rings sectors cells radius «face_width» numbers floats records) ⌝ }
-    ensures records { λ _. ⌜ now (records .exit)
-        ≡ recordsAfter (call kind payload rings sectors cells radius «face_width» numbers floats records) ⌝ }
+    ensures buffers { λ _. ⌜ now (numbers .exit) ∷ now (floats .exit) ∷ now (records .exit) ∷ []
+        ≡ sceneLeaves (call kind payload rings sectors cells radius «face_width» numbers floats records) ⌝ }
 {
     tell(
         words,
