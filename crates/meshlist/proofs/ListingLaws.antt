@@ -5,13 +5,14 @@ use mathlib.Core.List.{List, [], _∷_}
 use native.Mathlib.Omega.{arith}
 use lib.ListN.{length}
 use borrow.Author.Tests.{le-leb, lt-leb}
-use Rattle.bits.specs.Verdict.{Verdict, accepted, needs, declined, mapped, andThen}
-use Rattle.bits.proofs.VerdictLaws.{clash, within-yes}
+use Rattle.bits.specs.Verdict.{Verdict, accepted, needs, declined, mapped}
+use Rattle.bits.proofs.VerdictLaws.{clash}
+use Rattle.payload.specs.Lent.{answerFor}
 use Rattle.payload.specs.Payload.{limited}
 use Rattle.payload.specs.Mesh.{Mesh}
 use Rattle.payload.specs.MeshRead.{readMeshes}
 use Rattle.payload.specs.MeshDrawing.{drawnRecords, submeshTotal}
-use Rattle.payload.specs.Meshes.{listCounts, recordedAnswer, recordsAnswer}
+use Rattle.payload.specs.Meshes.{listCounts, recordedMeshes, recordsPlan}
 use Rattle.payload.proofs.PayloadLaws.{limited-yes}
 use Rattle.payload.proofs.MeasureLaws.{list-fits, records-length}
 use Rattle.payload.proofs.SettledLaws.{never-needs}
@@ -34,16 +35,19 @@ module _ (s : List ℕ) (h : length s ≤ 16384) where
       let r : readMeshes s ≡ accepted l = sym (simp (le-leb (length s) 16384 h)) ∙ e in
       omega (arith, list-fits s l r .1)
 
-  -- what the records call answers with n words
-  module _ (n : ℕ) (k : 13650 ≤ n) where
-    pub listing-is : recordsAnswer s n ≡ listing s
-    unfolding recordedAnswer
-    listing-is = ap (λ (v : Verdict (List Mesh)). andThen v (λ l. recordedAnswer l n)) listed-is ∙ go (listed s) refl
-      where
-        go : (v : Verdict (List Mesh)) → listed s ≡ v → andThen v (λ l. recordedAnswer l n) ≡ mapped listCounts v
-        go (accepted l) e = within-yes (length (drawnRecords l)) n (listCounts l) (needs (length (drawnRecords l) ∷ [])) (omega (arith, records-length l, records-fit l e))
-        go (needs l) e = refl
-        go (declined d) e = refl
+  -- what the records call answers with 13,650 words or more
+  pub listing-is : (out : List ℕ) → 13650 ≤ length out → answerFor (recordsPlan s) (out ∷ []) ≡ listing s
+  unfolding answerFor
+  listing-is out k =
+      ap (λ (v : Verdict (List Mesh)). answerFor (mapped recordedMeshes v) (out ∷ [])) listed-is ∙ go (listed s) refl
+    where
+      go : (v : Verdict (List Mesh)) → listed s ≡ v
+          → answerFor (mapped recordedMeshes v) (out ∷ []) ≡ mapped listCounts v
+      go (accepted l) e =
+          let h : length (drawnRecords l) ≤ length out = omega (arith, records-length l, records-fit l e) in
+          simp (le-leb (length (drawnRecords l)) (length out) h)
+      go (needs l) e = refl
+      go (declined d) e = refl
 
   -- it never asks for more words
   pub never-more : (l : List ℕ) → listing s ≡ needs l → ⊥

@@ -5,9 +5,10 @@ use mathlib.Core.Bool.{cond}
 use lib.Dec.{leb}
 use lib.ListN.{length}
 use Rattle.bits.specs.Verdict.{Verdict, accepted, declined, mapped}
+use Rattle.payload.specs.Lent.{Plan}
 use Rattle.payload.specs.Mesh.{Mesh}
 use Rattle.payload.specs.MeshRead.{readMeshes}
-use Rattle.payload.specs.Meshes.{listCounts}
+use Rattle.payload.specs.Meshes.{listCounts, recordedMeshes}
 use Rattle.meshlist.specs.declared.input.Input.{Input}
 use Rattle.meshlist.specs.declared.input.Input.the-variants as I
 use Rattle.meshlist.specs.declared.listing.Listing.{Listing}
@@ -25,6 +26,10 @@ listed s = cond (leb (length s) 16384) (readMeshes s) (declined 2)
 -- meshes, submeshes and points, or the number of the refusal
 abbrev pub listing : List ℕ → Verdict (ℕ × ℕ × ℕ)
 listing s = mapped listCounts (listed s)
+
+-- the same, and the list's records
+abbrev pub listingPlan : List ℕ → Verdict (Plan (ℕ × ℕ × ℕ))
+listingPlan s = mapped recordedMeshes (listed s)
 
 abbrev pub listingSays : Listing → Verdict (ℕ × ℕ × ℕ)
 listingSays (L.Counts meshes submeshes points) = accepted (meshes, submeshes, points)

@@ -5,12 +5,11 @@ use crate::print::print_refusal;
 use crate::print::print_total;
 use payload::RecordsAnswer;
 ghost use mathlib.Core.Path.{_≡_};
+ghost use mathlib.Core.List.{[], _∷_};
 ghost use Prim.Native.Nat.{_*_, _≤_};
 ghost use lib.ListN.{length};
-ghost use Rattle.bits.specs.Verdict.{mapped};
-ghost use Rattle.payload.specs.Fill.{front};
-ghost use Rattle.payload.specs.MeshDrawing.{drawnRecords};
-ghost use Rattle.meshlist.specs.Listing.{listingSays, listing, listed, lineCount};
+ghost use Rattle.payload.specs.Lent.{buffersAfter, atEntry};
+ghost use Rattle.meshlist.specs.Listing.{listingSays, listing, listingPlan, lineCount};
 
 // The counts of the list, or the number of the refusal.
 pub enum Listing {
@@ -22,12 +21,14 @@ pub enum Listing {
     Refused(u8),
 }
 
-// The records of a payload of at most 16,384 bytes. A submesh takes 48 bits or more, so a buffer of 5 words for each of 2,730 is long enough.
+// The records of a payload of at most 16,384 bytes. A submesh takes 48 bits or more, so a buffer of 5 words for each of
+// 2,730 is long enough.
 fn list_records(payload: &[u8], records: &mut [u32]) -> Listing
     requires { ⌜ 13650 ≤ length (now records) ⌝ }
-    ensures { λ r. ⌜ listingSays r ≡ listing (now (payload .entry)) ⌝ }
-    ensures { λ r. ⌜ 5 * lineCount r ≤ length (now (records .exit)) ⌝ }
-    ensures { λ _. ⌜ now (records .exit) ≡ front (mapped drawnRecords (listed (now (payload .entry)))) (now (records .entry)) ⌝ }
+    ensures answer { λ r. ⌜ listingSays r ≡ listing (now (payload .entry)) ⌝ }
+    ensures lines { λ r. ⌜ 5 * lineCount r ≤ length (now (records .exit)) ⌝ }
+    ensures buffers { λ _. ⌜ now (records .exit) ∷ []
+        ≡ buffersAfter (listingPlan (now (payload .entry))) (atEntry (records ∷ [])) ⌝ }
 {
     if 16_384 < payload.len() {
         return Listing::Refused(2);

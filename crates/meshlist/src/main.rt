@@ -1,5 +1,5 @@
-// Lists the submeshes of a mesh list (kind 2), which comes as raw bytes on standard input: a heading, the five words of each submesh's record and
-// the totals, or only the number of the refusal.
+// Lists the submeshes of a mesh list (kind 2), which comes as raw bytes on standard input: a heading, the five words
+// of each submesh's record and the totals, or only the number of the refusal.
 mod input;
 mod listing;
 mod print;

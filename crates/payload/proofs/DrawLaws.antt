@@ -1,35 +1,30 @@
--- The filling pass stores a mesh list's drawing piece by piece: the words of points, of submeshes and of meshes, and the whole in three buffers. Assumes nothing.
+-- The filling pass stores a mesh list's drawing piece by piece: the words of points, of submeshes and of meshes. Assumes nothing.
 use Prim.Native.Nat.{ℕ, zero, suc, _+_, _-_, _*_, _≤_, _<_}
 use mathlib.Core.Path.{_≡_, refl, sym, ap, ap₂, _∙_}
 use mathlib.Core.List.{List, [], _∷_, _++_, append-assoc, append-nil}
-use mathlib.Core.Bool.{true, false}
 use native.Mathlib.Omega.{arith}
 use lib.ListN.{length, getD, length-append}
 use lib.Seq.{sets, length-sets}
-use borrow.Author.Tests.{le-leb, lt-leb}
-use Rattle.bits.specs.Verdict.{Verdict, accepted, needs, declined, mapped}
+use Rattle.bits.specs.Verdict.{accepted}
 use Rattle.bits.specs.Field.{field}
 use Rattle.bits.specs.Number.{widthOf}
 use Rattle.bits.specs.Header.{listEnd, headerAt}
-use Rattle.payload.specs.Payload.{limited}
 use Rattle.payload.specs.Mesh.{Submesh, Mesh}
 use Rattle.bits.specs.Run.{zeros, Found, readRun, lastOf, summed}
 use Rattle.bits.proofs.RunLaws.{run-spells}
 use Rattle.bits.proofs.SummedLaws.{length-summed, run-part, last-at}
 use Rattle.payload.specs.MeshSpells.{submeshBits, SubmeshesSpell, aligned, verticesAt, meshType}
-use Rattle.payload.specs.MeshRead.{many, readSubmesh, readWords, readMesh, readFrom, readMeshes}
-use Rattle.payload.specs.MeshDrawing.{pointWords, runWords, submeshWords, coordinate, meshWords, pointCount, drawnNumbers, drawnFloats, drawnRecords}
-use Rattle.payload.specs.Meshes.{listSize, fitsIn, drawnAnswer, drawnInto, meshesAnswer}
+use Rattle.payload.specs.MeshRead.{many, readSubmesh, readWords, readMesh, readFrom}
+use Rattle.payload.specs.MeshDrawing.{pointWords, runWords, submeshWords, coordinate, meshWords, pointCount, drawnNumbers, drawnFloats}
 use Rattle.payload.specs.Internal.{WasRead, valueOr, runNumbers, wordAt, Pooled, PointsBelow, submeshesRead, meshRead, boxRead, meshesFrom, HeadOf, FillRoom, afterMeshes}
 use Rattle.payload.specs.declared.mesh.Head.{Head}
 use Rattle.payload.specs.declared.mesh.draw.Place.{Place}
-use Rattle.payload.specs.declared.mesh.measure.MeshListSize.{MeshListSize}
-use Rattle.payload.proofs.FillLaws.{sets-append, sets-after, getD-sets, sets-front}
+use Rattle.payload.proofs.FillLaws.{sets-append, sets-after, getD-sets}
 use Rattle.payload.proofs.StepLaws.{read-value}
 use Rattle.payload.proofs.RangeLaws.{width-small, width-some, words-at}
 use Rattle.payload.proofs.MeshReadLaws.{MeshParts, mesh-parts, parts-vertices, parts-submeshes}
 use Rattle.payload.proofs.MeasureLaws.{run-floats, submesh-floats}
-use Rattle.payload.proofs.TurnLaws.{SubmeshTurn, turn-stored, mesh-is, box-skipped, BoxTurn, list-end, Listed, not-listed, listed-lengths}
+use Rattle.payload.proofs.TurnLaws.{SubmeshTurn, turn-stored, mesh-is, box-skipped, BoxTurn, list-end}
 
 -- ---- points
 
@@ -371,69 +366,3 @@ module _ {s num₀ wrd₀ num wrd : List ℕ} {at : ℕ} {to : Place} (L : Meshe
           long = a ∙ L .long;
           long-2 = b ∙ L .long-2;
         })
-
--- ---- a drawing and three buffers
-
-module _ (l : List Mesh) (a b c : ℕ) where
-  fits-all : length (drawnNumbers l) ≤ a → length (drawnFloats l) ≤ b → length (drawnRecords l) ≤ c → fitsIn l a b c ≡ true
-  unfolding fitsIn
-  fits-all x y z = simp (le-leb (length (drawnNumbers l)) a x, le-leb (length (drawnFloats l)) b y, le-leb (length (drawnRecords l)) c z)
-
-  short-numbers : a < length (drawnNumbers l) → fitsIn l a b c ≡ false
-  unfolding fitsIn
-  short-numbers x = simp (lt-leb (length (drawnNumbers l)) a x)
-
-  short-floats : length (drawnNumbers l) ≤ a → b < length (drawnFloats l) → fitsIn l a b c ≡ false
-  unfolding fitsIn
-  short-floats x y = simp (le-leb (length (drawnNumbers l)) a x, lt-leb (length (drawnFloats l)) b y)
-
-  short-records : length (drawnNumbers l) ≤ a → length (drawnFloats l) ≤ b → c < length (drawnRecords l) → fitsIn l a b c ≡ false
-  unfolding fitsIn
-  short-records x y z = simp (le-leb (length (drawnNumbers l)) a x, le-leb (length (drawnFloats l)) b y, lt-leb (length (drawnRecords l)) c z)
-
--- a call that draws the payload s into the buffers num, wrd and rec: what it says, and the buffers afterwards
-pub record Drew (s num wrd rec : List ℕ) (says : Verdict MeshListSize) (num′ wrd′ rec′ : List ℕ) : Type 0 where
-  pub answer : says ≡ meshesAnswer s (length num) (length wrd) (length rec)
-  pub numbers : num′ ≡ drawnInto drawnNumbers (limited s (readMeshes s)) (length num) (length wrd) (length rec) num
-  pub floats : wrd′ ≡ drawnInto drawnFloats (limited s (readMeshes s)) (length num) (length wrd) (length rec) wrd
-  pub records : rec′ ≡ drawnInto drawnRecords (limited s (readMeshes s)) (length num) (length wrd) (length rec) rec
-
-module _ (s num wrd rec : List ℕ) where
-  pub draws-declined : (k : ℕ) → declined k ≡ limited s (mapped listSize (readMeshes s)) → Drew s num wrd rec (declined k) num wrd rec
-  draws-declined k e = let d = not-listed s k e in record { answer = rw d; numbers = rw d; floats = rw d; records = rw d }
-
-  module _ {n : MeshListSize} (L : Listed s n) where
-    unfits : fitsIn (meshesFrom s 0) (length num) (length wrd) (length rec) ≡ false → (says : Verdict MeshListSize) → says ≡ needs (n .numbers ∷ n .floats ∷ n .records ∷ []) → Drew s num wrd rec says num wrd rec
-    unfolding drawnAnswer
-    unfits x says e =
-        let h = listed-lengths L in
-        record {
-          answer = e ∙ rw (L .is, x, h .0, h .1, h .2);
-          numbers = rw (L .is, x);
-          floats = rw (L .is, x);
-          records = rw (L .is, x);
-        }
-
-    module _ (says : Verdict MeshListSize) (e : says ≡ needs (n .numbers ∷ n .floats ∷ n .records ∷ [])) where
-      pub draws-short₁ : length num < n .numbers → Drew s num wrd rec says num wrd rec
-      draws-short₁ x = let h = listed-lengths L in unfits (short-numbers (meshesFrom s 0) (length num) (length wrd) (length rec) (omega arith)) says e
-
-      pub draws-short₂ : n .numbers ≤ length num → length wrd < n .floats → Drew s num wrd rec says num wrd rec
-      draws-short₂ x y = let h = listed-lengths L in unfits (short-floats (meshesFrom s 0) (length num) (length wrd) (length rec) (omega arith) (omega arith)) says e
-
-      pub draws-short₃ : n .numbers ≤ length num → n .floats ≤ length wrd → length rec < n .records → Drew s num wrd rec says num wrd rec
-      draws-short₃ x y z = let h = listed-lengths L in unfits (short-records (meshesFrom s 0) (length num) (length wrd) (length rec) (omega arith) (omega arith) (omega arith)) says e
-
-    pub draws-all : n .numbers ≤ length num → n .floats ≤ length wrd → n .records ≤ length rec → (num′ wrd′ rec′ : List ℕ)
-        → num′ ≡ sets num 0 (drawnNumbers (meshesFrom s 0)) → wrd′ ≡ sets wrd 0 (drawnFloats (meshesFrom s 0)) → rec′ ≡ sets rec 0 (drawnRecords (meshesFrom s 0))
-        → Drew s num wrd rec (accepted n) num′ wrd′ rec′
-    unfolding drawnAnswer
-    draws-all x y z num′ wrd′ rec′ a b c =
-        let h = listed-lengths L in
-        let f = fits-all (meshesFrom s 0) (length num) (length wrd) (length rec) (omega arith) (omega arith) (omega arith) in
-        record {
-          answer = rw (L .is, f) (ap accepted (L .size));
-          numbers = a ∙ rw (L .is, f) (sets-front (drawnNumbers (meshesFrom s 0)) num (omega arith));
-          floats = b ∙ rw (L .is, f) (sets-front (drawnFloats (meshesFrom s 0)) wrd (omega arith));
-          records = c ∙ rw (L .is, f) (sets-front (drawnRecords (meshesFrom s 0)) rec (omega arith));
-        }

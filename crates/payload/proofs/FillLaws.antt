@@ -1,17 +1,16 @@
--- Laws of lists made piece by piece, of buffers filled with them, and of what a filling call says and leaves. Assumes nothing.
+-- Laws of lists made piece by piece, of buffers filled with them, and of the lengths of two lists. Assumes nothing.
 use mathlib.Core.Path.{_≡_, refl, sym, ap, ap₂, _∙_}
 use mathlib.Core.List.{List, [], _∷_, _++_}
-use Prim.Native.Nat.{ℕ, zero, suc, _+_, _*_, _/_, _≤_, _<_}
+use Prim.Native.Nat.{ℕ, zero, suc, _+_, _*_, _≤_, _<_}
 use mathlib.Core.Logic.{_⊎_, inl, inr}
-use native.Mathlib.Nat.{suc-mul, add-suc, suc-add, add-zero, zero-add, zero-mul, le-refl}
+use native.Mathlib.Nat.{suc-mul, add-suc, suc-add, add-zero, zero-mul, le-refl}
 use native.Mathlib.Numerals.{add-one}
 use native.Mathlib.Omega.{arith}
 use lib.ListN.{length, take, drop, set, length-append, getD, List·getD-append}
 use lib.Seq.{sets, sets-eq, length-sets, getD-append-add, length-take-le}
-use borrow.Author.Tests.{le-leb, lt-leb}
-use Rattle.bits.specs.Verdict.{Verdict, accepted, needs, declined}
-use Rattle.bits.proofs.VerdictLaws.{le-or-lt, within-yes, within-no}
-use Rattle.payload.specs.Fill.{each, answered, front, bothLengths}
+use Rattle.bits.specs.Verdict.{Verdict, accepted, declined}
+use Rattle.bits.proofs.VerdictLaws.{le-or-lt}
+use Rattle.payload.specs.Fill.{each, bothLengths}
 
 -- ---- pieces
 
@@ -131,42 +130,6 @@ module _ {f : ℕ → List ℕ} {n : ℕ} {d : List ℕ} {o : ℕ} {l : List ℕ
 
   pub filling-all : n ≤ j → Holds d o (each f n) l w
   filling-all h = let e : n ≡ j = omega arith in rw e (i .held)
-
--- ---- a filling call
-
-module _ (l out : List ℕ) where
-  pub sets-front : length l ≤ length out → sets out 0 l ≡ l ++ drop (length l) out
-  sets-front h = sets-eq l out 0 (omega arith) ∙ ap (λ (k : ℕ). l ++ drop k out) (zero-add (length l))
-
-  pub front-yes : length l ≤ length out → sets out 0 l ≡ front (accepted l) out
-  front-yes h = sets-front h ∙ sym (simp (le-leb (length l) (length out) h))
-
-  pub front-no : length out < length l → out ≡ front (accepted l) out
-  front-no h = sym (simp (lt-leb (length l) (length out) h))
-
-module _ (u : ℕ) (l : List ℕ) (room : ℕ) where
-  pub answered-yes : length l ≤ room → accepted (length l / u) ≡ answered u (accepted l) room
-  answered-yes h = sym (within-yes (length l) room (length l / u) (needs (length l ∷ [])) h)
-
-  pub answered-no : room < length l → needs (length l ∷ []) ≡ answered u (accepted l) room
-  answered-no h = sym (within-no (length l) room (length l / u) (needs (length l ∷ [])) h)
-
--- A call's answer and the buffer that it leaves, by what is to be put into it: v is refused, does not fit, or fits.
-
-module _ (u : ℕ) (v : Verdict (List ℕ)) (out : List ℕ) where
-  pub told-declined : (k : ℕ) → v ≡ declined k → (declined k ≡ answered u v (length out)) × (out ≡ front v out)
-  told-declined k e = (rw e, rw e)
-
-  pub told-needs : (l : List ℕ) (n : ℕ) → v ≡ accepted l → n ≡ length l → length out < n → (needs (n ∷ []) ≡ answered u v (length out)) × (out ≡ front v out)
-  told-needs l n e m h = (rw (e, m) (answered-no u l (length out) (omega arith)), rw e (front-no l out (omega arith)))
-
-  pub told-filled : (l r : List ℕ) (n : ℕ) → v ≡ accepted l → n ≡ length l / u → length l ≤ length out → r ≡ sets out 0 l → (accepted n ≡ answered u v (length out)) × (r ≡ front v out)
-  told-filled l r n e m h p = (rw (e, m) (answered-yes u l (length out) h), rw (e, p) (front-yes l out h))
-
-  -- what a callee said and left of the list itself
-  pub told-same : (l : List ℕ) (r : Verdict ℕ) (t : List ℕ) → v ≡ accepted l → r ≡ answered u (accepted l) (length out) → t ≡ front (accepted l) out
-      → (r ≡ answered u v (length out)) × (t ≡ front v out)
-  told-same l r t e p q = (rw e p, rw e q)
 
 -- ---- the lengths of two lists
 

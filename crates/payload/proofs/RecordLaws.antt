@@ -5,26 +5,21 @@ use mathlib.Core.List.{List, [], _∷_, _++_, append-assoc, append-nil}
 use native.Mathlib.Omega.{arith}
 use lib.ListN.{length, length-append}
 use lib.Seq.{sets}
-use Rattle.bits.specs.Verdict.{accepted, needs, declined, mapped}
+use Rattle.bits.specs.Verdict.{accepted}
 use Rattle.bits.specs.Field.{field}
 use Rattle.bits.specs.Number.{widthOf}
 use Rattle.bits.specs.Header.{listEnd, headerAt}
-use Rattle.bits.proofs.VerdictLaws.{within-yes, within-no}
-use Rattle.payload.specs.Fill.{front}
-use Rattle.payload.specs.Payload.{limited}
 use Rattle.payload.specs.Mesh.{Submesh, Mesh}
 use Rattle.payload.specs.MeshSpells.{meshType}
 use Rattle.payload.specs.MeshRead.{many, readSubmesh, readMeshes, readFrom}
 use Rattle.payload.specs.MeshDrawing.{submeshRecords, pointCount, recordsFrom, drawnRecords, pointTotal}
-use Rattle.payload.specs.Meshes.{listSize, listCounts, recordedAnswer, recordsAnswer}
 use Rattle.payload.specs.Internal.{WasRead, valueOr, submeshesRead, meshRead, boxRead, meshesFrom, recordWords, RecordRoom, afterRecords}
 use Rattle.payload.specs.declared.mesh.draw.Record.{Record}
 use Rattle.payload.specs.declared.mesh.draw.RecordPlace.{RecordPlace}
-use Rattle.payload.specs.declared.mesh.measure.MeshListSize.{MeshListSize}
-use Rattle.payload.proofs.FillLaws.{sets-append, front-yes, front-no}
+use Rattle.payload.proofs.FillLaws.{sets-append}
 use Rattle.payload.proofs.StepLaws.{read-value}
 use Rattle.payload.proofs.MeasureLaws.{records-on, list-fits}
-use Rattle.payload.proofs.TurnLaws.{SubmeshTurn, turn-stored, box-skipped, BoxTurn, list-end, Listed, not-listed, listed-lengths}
+use Rattle.payload.proofs.TurnLaws.{SubmeshTurn, turn-stored, box-skipped, BoxTurn, list-end}
 use Rattle.payload.proofs.DrawLaws.{MeshKnown}
 
 -- ---- submeshes
@@ -150,28 +145,3 @@ module _ {s rec₀ rec : List ℕ} {at : ℕ} {to : RecordPlace} (L : RecordsLef
           room = record { records = omega (arith, L .room .records, records-sum); meshes = omega (arith, L .room .meshes, meshes-sum); points = omega (arith, L .room .points, points-sum) };
           long = a ∙ L .long;
         })
-
--- ---- the records alone
-
-module _ (s rec : List ℕ) where
-  pub records-declined : (k : ℕ) → declined k ≡ limited s (mapped listSize (readMeshes s))
-      → (declined k ≡ recordsAnswer s (length rec)) × (rec ≡ front (mapped drawnRecords (limited s (readMeshes s))) rec)
-  records-declined k e = let d = not-listed s k e in (rw d refl, rw d refl)
-
-  module _ {n : MeshListSize} (L : Listed s n) where
-    pub records-short : length rec < n .records
-        → (needs (n .records ∷ []) ≡ recordsAnswer s (length rec)) × (rec ≡ front (mapped drawnRecords (limited s (readMeshes s))) rec)
-    unfolding recordedAnswer
-    records-short x =
-        let h = listed-lengths L in
-        let l = drawnRecords (meshesFrom s 0) in
-        rw (L .is) (sym (within-no (length l) (length rec) (listCounts (meshesFrom s 0)) (needs (length l ∷ [])) (omega arith) ∙ rw (h .2)), front-no l rec (omega arith))
-
-    pub records-all : n .records ≤ length rec → (rec′ : List ℕ) → rec′ ≡ sets rec 0 (drawnRecords (meshesFrom s 0))
-        → (accepted (n .meshes, n .submeshes, n .points) ≡ recordsAnswer s (length rec)) × (rec′ ≡ front (mapped drawnRecords (limited s (readMeshes s))) rec)
-    unfolding recordedAnswer listSize
-    records-all x rec′ e =
-        let h = listed-lengths L in
-        let l = drawnRecords (meshesFrom s 0) in
-        let i : _≡_ {A = ℕ × ℕ × ℕ} (n .meshes, n .submeshes, n .points) (listCounts (meshesFrom s 0)) = ap (λ (m : MeshListSize). (m .meshes, m .submeshes, m .points)) (L .size) in
-        rw (L .is) (ap accepted i ∙ sym (within-yes (length l) (length rec) (listCounts (meshesFrom s 0)) (needs (length l ∷ [])) (omega arith)), e ∙ front-yes l rec (omega arith))

@@ -1,13 +1,11 @@
--- The tables of a mesh are stored piece by piece, and what the call says and leaves. Assumes nothing.
+-- The tables of a mesh are stored piece by piece. Assumes nothing.
 use Prim.Native.Nat.{ℕ, zero, suc, _+_, _-_, _*_, _≤_, _<_}
 use mathlib.Core.Path.{_≡_, refl, sym, ap, _∙_}
 use mathlib.Core.List.{List, [], _∷_}
-use mathlib.Core.Bool.{true, false}
 use native.Mathlib.Omega.{arith}
 use lib.ListN.{length, set, length-append}
 use lib.Seq.{sets}
-use borrow.Author.Tests.{le-leb, lt-leb}
-use Rattle.bits.specs.Verdict.{Verdict, accepted, needs, declined, mapped, andThen}
+use Rattle.bits.specs.Verdict.{Verdict, accepted, declined, mapped, andThen}
 use Rattle.bits.specs.Field.{field}
 use Rattle.bits.proofs.VerdictLaws.{then-yes, then-no, mapped-value, mapped-declined}
 use Rattle.payload.specs.Mesh.{Submesh, Mesh}
@@ -16,9 +14,9 @@ use Rattle.payload.specs.MeshSpells.{vertexCount}
 use Rattle.payload.specs.MeshRead.{many, readSubmesh, readWords, readMesh}
 use Rattle.payload.specs.MeshDrawing.{pointCount}
 use Rattle.payload.specs.Internal.{WasRead, runNumbers, submeshesRead, meshRead, bodySize}
-use Rattle.payload.specs.Tables.{submeshRows, allPoints, poolTable, coordinateTable, submeshTable, pointTable, tableLengths, bodyRead, tablesFit, tablesAnswer, tablesInto}
+use Rattle.payload.specs.Tables.{submeshRows, allPoints, poolTable, coordinateTable, submeshTable, pointTable, tableLengths, bodyRead}
 use Rattle.payload.specs.declared.mesh.measure.TableLengths.{TableLengths}
-use Rattle.payload.proofs.FillLaws.{sets-after, sets-front}
+use Rattle.payload.proofs.FillLaws.{sets-after}
 use Rattle.payload.proofs.PayloadLaws.{limited-yes, limited-no, limited-value}
 use Rattle.payload.proofs.StepLaws.{was-read, read-value}
 use Rattle.payload.proofs.RangeLaws.{words-length}
@@ -117,12 +115,6 @@ body-declined s k h e = limited-yes s _ h ∙ then-no (readMesh s) (λ x. accept
 body-accepted : (s : List ℕ) (x : Mesh) (t : ℕ) → length s ≤ 67108864 → readMesh s ≡ accepted (x, t) → bodyRead s ≡ accepted x
 body-accepted s x t h e = limited-yes s _ h ∙ then-yes (readMesh s) (λ x. accepted (x .0)) (x, t) e
 
-lengths-are : (x : Mesh) (n : TableLengths) → n ≡ tableLengths x
-    → (n .pool ≡ length (poolTable x)) × (n .coordinates ≡ length (coordinateTable x)) × (n .submeshes ≡ length (submeshTable x)) × (n .points ≡ length (pointTable x))
-unfolding tableLengths
-lengths-are x n e =
-    (ap (λ (n : TableLengths). n .pool) e, ap (λ (n : TableLengths). n .coordinates) e, ap (λ (n : TableLengths). n .submeshes) e, ap (λ (n : TableLengths). n .points) e)
-
 lengths-of : (x : Mesh) (n : TableLengths)
     → n .pool ≡ length (poolTable x) → n .coordinates ≡ length (coordinateTable x) → n .submeshes ≡ length (submeshTable x) → n .points ≡ length (pointTable x) → n ≡ tableLengths x
 unfolding tableLengths
@@ -169,77 +161,3 @@ body-known s n e =
     let v = mapped-value (λ (x : Mesh × ℕ). x .0) (readMesh s) (b .0) (sym (l .1)) in
     let z : meshRead s ≡ b .0 = mesh-is s (v .0) (v .1) ∙ v .2 in
     record { size = l .0; read = was-read (readMesh s) (v .0) (v .1); is = rw z (b .1); lengths = rw z (sym (b .2)) }
-
--- ---- the tables and four buffers
-
-module _ (x : Mesh) (n : TableLengths) (l : n ≡ tableLengths x) (a b c d : ℕ) where
-  fit-yes : n .pool ≤ a → n .coordinates ≤ b → n .submeshes ≤ c → n .points ≤ d → tablesFit x a b c d ≡ true
-  unfolding tablesFit
-  fit-yes h₁ h₂ h₃ h₄ = let e = lengths-are x n l in rw (← e .0, ← e .1, ← e .2, ← e .3) (simp (le-leb (n .pool) a h₁, le-leb (n .coordinates) b h₂, le-leb (n .submeshes) c h₃, le-leb (n .points) d h₄))
-
-  fit-no₁ : a < n .pool → tablesFit x a b c d ≡ false
-  unfolding tablesFit
-  fit-no₁ h₁ = let e = lengths-are x n l in rw (← e .0) (simp (lt-leb (n .pool) a h₁))
-
-  fit-no₂ : n .pool ≤ a → b < n .coordinates → tablesFit x a b c d ≡ false
-  unfolding tablesFit
-  fit-no₂ h₁ h₂ = let e = lengths-are x n l in rw (← e .0, ← e .1) (simp (le-leb (n .pool) a h₁, lt-leb (n .coordinates) b h₂))
-
-  fit-no₃ : n .pool ≤ a → n .coordinates ≤ b → c < n .submeshes → tablesFit x a b c d ≡ false
-  unfolding tablesFit
-  fit-no₃ h₁ h₂ h₃ = let e = lengths-are x n l in rw (← e .0, ← e .1, ← e .2) (simp (le-leb (n .pool) a h₁, le-leb (n .coordinates) b h₂, lt-leb (n .submeshes) c h₃))
-
-  fit-no₄ : n .pool ≤ a → n .coordinates ≤ b → n .submeshes ≤ c → d < n .points → tablesFit x a b c d ≡ false
-  unfolding tablesFit
-  fit-no₄ h₁ h₂ h₃ h₄ = let e = lengths-are x n l in rw (← e .0, ← e .1, ← e .2, ← e .3) (simp (le-leb (n .pool) a h₁, le-leb (n .coordinates) b h₂, le-leb (n .submeshes) c h₃, lt-leb (n .points) d h₄))
-
--- the call says w of the body's verdict v, and takes the buffers to p′, q′, r′ and t′
-abbrev pub Answered : Verdict TableLengths → Verdict Mesh → List ℕ → List ℕ → List ℕ → List ℕ → List ℕ → List ℕ → List ℕ → List ℕ → Type 0
-Answered w v p q r t p′ q′ r′ t′ =
-    (w ≡ andThen v (λ x. tablesAnswer x (length p) (length q) (length r) (length t)))
-    × ((p′ ≡ tablesInto poolTable v (length p) (length q) (length r) (length t) p)
-    × ((q′ ≡ tablesInto coordinateTable v (length p) (length q) (length r) (length t) q)
-    × ((r′ ≡ tablesInto submeshTable v (length p) (length q) (length r) (length t) r)
-    × (t′ ≡ tablesInto pointTable v (length p) (length q) (length r) (length t) t))))
-
--- the lengths as a list
-abbrev pub fourLengths : TableLengths → List ℕ
-fourLengths n = n .pool ∷ n .coordinates ∷ n .submeshes ∷ n .points ∷ []
-
-module _ (s p q r t : List ℕ) where
-  pub answered-declined : (k : ℕ) → declined k ≡ mapped tableLengths (bodyRead s) → Answered (declined k) (bodyRead s) p q r t p q r t
-  answered-declined k e = let z = mapped-declined tableLengths (bodyRead s) k e in rw z (refl, (refl, (refl, (refl, refl))))
-
-  module _ (n : TableLengths) (K : BodyKnown s n) where
-    needed : tablesFit (meshRead s) (length p) (length q) (length r) (length t) ≡ false → Answered (needs (fourLengths n)) (bodyRead s) p q r t p q r t
-    unfolding tablesAnswer
-    needed f = let z = lengths-are (meshRead s) n (K .lengths) in rw (K .is, f, z .0, z .1, z .2, z .3) (refl, (refl, (refl, (refl, refl))))
-
-    -- a buffer is too short
-    pub short₁ : length p < n .pool → Answered (needs (fourLengths n)) (bodyRead s) p q r t p q r t
-    short₁ h₁ = needed (fit-no₁ (meshRead s) n (K .lengths) _ _ _ _ h₁)
-
-    pub short₂ : n .pool ≤ length p → length q < n .coordinates → Answered (needs (fourLengths n)) (bodyRead s) p q r t p q r t
-    short₂ h₁ h₂ = needed (fit-no₂ (meshRead s) n (K .lengths) _ _ _ _ h₁ h₂)
-
-    pub short₃ : n .pool ≤ length p → n .coordinates ≤ length q → length r < n .submeshes → Answered (needs (fourLengths n)) (bodyRead s) p q r t p q r t
-    short₃ h₁ h₂ h₃ = needed (fit-no₃ (meshRead s) n (K .lengths) _ _ _ _ h₁ h₂ h₃)
-
-    pub short₄ : n .pool ≤ length p → n .coordinates ≤ length q → n .submeshes ≤ length r → length t < n .points → Answered (needs (fourLengths n)) (bodyRead s) p q r t p q r t
-    short₄ h₁ h₂ h₃ h₄ = needed (fit-no₄ (meshRead s) n (K .lengths) _ _ _ _ h₁ h₂ h₃ h₄)
-
-    -- all four are long enough
-    module _ (h₁ : n .pool ≤ length p) (h₂ : n .coordinates ≤ length q) (h₃ : n .submeshes ≤ length r) (h₄ : n .points ≤ length t) where
-      pub tables-fit : (length (poolTable (meshRead s)) ≤ length p) × (length (coordinateTable (meshRead s)) ≤ length q) × (length (submeshTable (meshRead s)) ≤ length r)
-          × (length (pointTable (meshRead s)) ≤ length t)
-      tables-fit = let z = lengths-are (meshRead s) n (K .lengths) in rw (← z .0, ← z .1, ← z .2, ← z .3) (h₁, h₂, h₃, h₄)
-
-      pub answered-tables : (p′ q′ r′ t′ : List ℕ) → p′ ≡ sets p 0 (poolTable (meshRead s)) → q′ ≡ sets q 0 (coordinateTable (meshRead s))
-          → r′ ≡ sets r 0 (submeshTable (meshRead s)) → t′ ≡ sets t 0 (pointTable (meshRead s)) → Answered (accepted n) (bodyRead s) p q r t p′ q′ r′ t′
-      unfolding tablesAnswer
-      answered-tables p′ q′ r′ t′ a b c d =
-          let x = meshRead s in
-          let f = fit-yes x n (K .lengths) (length p) (length q) (length r) (length t) h₁ h₂ h₃ h₄ in
-          let z = tables-fit in
-          rw (K .is, f)
-          (ap accepted (K .lengths), (a ∙ sets-front (poolTable x) p (z .0), (b ∙ sets-front (coordinateTable x) q (z .1), (c ∙ sets-front (submeshTable x) r (z .2), d ∙ sets-front (pointTable x) t (z .3)))))

@@ -30,7 +30,8 @@ paddingUsable p = within p 4096 p (declined 5)
 
 unfoldable pub layoutThenPadding : List ℕ → ℕ → Verdict ℕ
 layoutThenPadding s at =
-    andThen (numberAt 4 s at) (λ layout. cond (eqb (layout .0) 0) (andThen (numberAt 4 s (layout .1)) (λ p. paddingUsable (p .0))) (declined 5))
+    andThen (numberAt 4 s at) (λ layout.
+    cond (eqb (layout .0) 0) (andThen (numberAt 4 s (layout .1)) (λ p. paddingUsable (p .0))) (declined 5))
 
 unfoldable pub cbmpRead : List ℕ → Verdict ℕ
 cbmpRead s = andThen (fullBox s) (layoutThenPadding s)

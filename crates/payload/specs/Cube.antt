@@ -62,7 +62,8 @@ right face axis = getD faceTable (face * 9 + 3 + axis) nan
 abbrev pub up : ℕ → ℕ → Float
 up face axis = getD faceTable (face * 9 + 6 + axis) nan
 
--- where the face's picture lies in the frame, a grid of 3 columns and 2 rows, with the padding's share cut off on each side; v runs upward
+-- where the face's picture lies in the frame, a grid of 3 columns and 2 rows, with the padding's share cut off on each
+-- side; v runs upward
 abbrev pub u₀ : ℕ → Float → Float
 u₀ face share = (nearest (face % 3) ⊕ share) ⊘ f3
 

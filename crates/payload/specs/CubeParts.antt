@@ -1,4 +1,5 @@
--- What the cube map's inner functions answer: a cell's numbers by its first corner, the floats of a face, and a point and a row of points made of them.
+-- What the cube map's inner functions answer: a cell's numbers by its first corner, the floats of a face, and a point
+-- and a row of points made of them.
 use Prim.Native.Nat.{ℕ, _+_}
 use mathlib.Core.List.{List, [], _∷_}
 use lib.Ieee.{Float}

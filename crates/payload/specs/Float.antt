@@ -1,4 +1,5 @@
--- Floats of binary32 by their bits, and the operations by short names. Each operation rounds to the nearest, ties to even.
+-- Floats of binary32 by their bits, and the operations by short names. Each operation rounds to the nearest, ties to
+-- even.
 use Prim.Native.Nat.{ℕ}
 use lib.Ieee.{Float, binary32, ofBits, add, sub, mul, div}
 use Rattle.bits.specs.Float.{nearest}

@@ -1,4 +1,5 @@
--- The theorems of a kind of payload, by name: what it is to read exactly what is spelled, and for reading and writing to undo each other.
+-- The theorems of a kind of payload, by name: what it is to read exactly what is spelled, and for reading and writing
+-- to undo each other.
 use Prim.Native.Nat.{ℕ, _+_, _-_, _*_, _/_, _^_, _≤_, _<_}
 use mathlib.Core.Path.{_≡_}
 use mathlib.Core.List.{List, [], _∷_}
@@ -25,8 +26,10 @@ pub record Reads (R : Type 0) (Spells : R → List ℕ → Type 0) (read : List 
   -- what is declined is spelled by no reading
   pub declined-spells-nothing : (s : List ℕ) (k : ℕ) → read s ≡ declined k → (ρ : R) → Spells ρ s → ⊥
 
--- its writer: how a payload is read as a reading, what the writer makes of a reading in range, and which payloads it can give back
-pub record Writes (R : Type 0) (Spells ReadAs : R → List ℕ → Type 0) (InRange : R → Type 0) (written : R → Verdict (List ℕ)) (Plain : R → List ℕ → Type 0) : Type 0 where
+-- its writer: how a payload is read as a reading, what the writer makes of a reading in range, and which payloads it
+-- can give back
+pub record Writes (R : Type 0) (Spells ReadAs : R → List ℕ → Type 0) (InRange : R → Type 0)
+    (written : R → Verdict (List ℕ)) (Plain : R → List ℕ → Type 0) : Type 0 where
   -- the reading that it was given spells what it wrote
   pub written-spells : (ρ : R) (s : List ℕ) → InRange ρ → written ρ ≡ accepted s → Spells ρ s
   -- what was written reads back
@@ -79,7 +82,8 @@ MeshReads = Reads Mesh BodySpells bodyRead
 abbrev pub Words32 : List ℕ → Type 0
 Words32 l = (i : ℕ) → getD l i 0 < 2 ^ 32
 
--- a lone box of at most 67,108,864 bytes that ends with the byte of its last field; the free bits are 0, those before the submesh count and those after the last field
+-- a lone box of at most 67,108,864 bytes that ends with the byte of its last field; the free bits are 0, those before
+-- the submesh count and those after the last field
 pub record PlainBox (x : Mesh) (s : List ℕ) : Type 0 where
   pub bytes : Bytes s
   pub most : length s ≤ 67108864
@@ -94,7 +98,9 @@ writtenOf x = meshWritten (poolTable x) (coordinateTable x) (submeshTable x) (po
 
 -- the reading is the list of the mesh alone
 abbrev pub MeshWrites : Type 0
-MeshWrites = Writes Mesh (λ x s. MeshesSpell (x ∷ []) s) (λ x s. readMeshes s ≡ accepted (x ∷ [])) (λ x. Words32 (x .pool)) writtenOf PlainBox
+MeshWrites =
+    Writes Mesh (λ x s. MeshesSpell (x ∷ []) s) (λ x s. readMeshes s ≡ accepted (x ∷ [])) (λ x. Words32 (x .pool))
+    writtenOf PlainBox
 
 -- what was written of four tables reads back as these tables: the box as a list of one mesh, and its body alone
 pub record TablesBack (pool coordinates rows points s : List ℕ) : Type 0 where
@@ -109,4 +115,6 @@ pub record TablesBack (pool coordinates rows points s : List ℕ) : Type 0 where
   pub points-same : pointTable mesh ≡ points
 
 abbrev pub TablesRead : Type 0
-TablesRead = (pool coordinates rows points s : List ℕ) → Words32 pool → meshWritten pool coordinates rows points ≡ accepted s → TablesBack pool coordinates rows points s
+TablesRead =
+    (pool coordinates rows points s : List ℕ) → Words32 pool → meshWritten pool coordinates rows points ≡ accepted s
+    → TablesBack pool coordinates rows points s

@@ -1,5 +1,7 @@
--- What the crate's contracts cite, a file to a subject. `Laws` and the files named `..Marked` state theorems about these definitions; their proofs are in proofs/.
+-- What the crate's contracts cite, a file to a subject. `Laws` and the files named `..Marked` state theorems about
+-- these definitions; their proofs are in proofs/.
 pub mod Fill
+pub mod Lent
 pub mod Float
 pub mod Crop
 pub mod Payload

@@ -45,7 +45,8 @@ pointCount l = sizes (λ (x : Submesh). length (x .points)) l
 unfoldable pub submeshRecords : ℕ → ℕ → List Submesh → List ℕ
 submeshRecords number first [] = []
 submeshRecords number first (x ∷ l) =
-    (number ∷ x .texture ∷ x .mode ∷ first ∷ length (x .points) ∷ []) ++ submeshRecords number (first + length (x .points)) l
+    (number ∷ x .texture ∷ x .mode ∷ first ∷ length (x .points) ∷ [])
+    ++ submeshRecords number (first + length (x .points)) l
 
 -- meshes are numbered from 0, and points counted from 0 through the whole drawing
 unfoldable pub recordsFrom : ℕ → ℕ → List Mesh → List ℕ

@@ -1,4 +1,5 @@
--- m1 of document 01: a list of one mesh box, as it is read, drawn and written, with damaged copies of it, and a list of two.
+-- m1 of document 01: a list of one mesh box, as it is read, drawn and written, with damaged copies of it, and a list of
+-- two.
 use Prim.Native.Nat.{ℕ}
 use mathlib.Core.Path.{_≡_}
 use mathlib.Core.List.{List, [], _∷_, _++_}
@@ -26,7 +27,9 @@ oneMesh =
 
 -- the box, one of another type with a byte in it, the box again, and three bytes that are free
 abbrev pub twoBoxes : List ℕ
-twoBoxes = oneBox ++ ((0x00 ∷ 0x00 ∷ 0x00 ∷ 0x09 ∷ 0x66 ∷ 0x72 ∷ 0x65 ∷ 0x65 ∷ 0xFF ∷ []) ++ (oneBox ++ (0xFF ∷ 0xFF ∷ 0xFF ∷ [])))
+twoBoxes =
+    oneBox
+    ++ ((0x00 ∷ 0x00 ∷ 0x00 ∷ 0x09 ∷ 0x66 ∷ 0x72 ∷ 0x65 ∷ 0x65 ∷ 0xFF ∷ []) ++ (oneBox ++ (0xFF ∷ 0xFF ∷ 0xFF ∷ [])))
 
 pub record MeshMarked : Type 0 where
   pub m1 : readMeshes oneBox ≡ accepted (oneMesh ∷ [])
@@ -34,7 +37,8 @@ pub record MeshMarked : Type 0 where
   pub m1-empty : readMeshes [] ≡ accepted []
   -- its drawing, and the records of two
   pub m1-numbers : drawnNumbers (oneMesh ∷ []) ≡ oneMesh .vertices
-  pub m1-floats : drawnFloats (oneMesh ∷ []) ≡ 0 ∷ 0 ∷ 0 ∷ 0 ∷ 0 ∷ 0x3F800000 ∷ 0 ∷ 0 ∷ 0x3F800000 ∷ 0 ∷ 0 ∷ 0x3F800000 ∷ 0 ∷ 0 ∷ 0x3F800000 ∷ []
+  pub m1-floats : drawnFloats (oneMesh ∷ [])
+      ≡ 0 ∷ 0 ∷ 0 ∷ 0 ∷ 0 ∷ 0x3F800000 ∷ 0 ∷ 0 ∷ 0x3F800000 ∷ 0 ∷ 0 ∷ 0x3F800000 ∷ 0 ∷ 0 ∷ 0x3F800000 ∷ []
   pub m1-records : drawnRecords (oneMesh ∷ oneMesh ∷ []) ≡ 0 ∷ 0 ∷ 0 ∷ 0 ∷ 3 ∷ 1 ∷ 0 ∷ 0 ∷ 3 ∷ 3 ∷ []
   -- written from its four tables; one point too many, a texture of 256, a vertex that is not there
   pub m1-written : meshWritten (oneMesh .pool) (oneMesh .vertices) (0 ∷ 0 ∷ 3 ∷ []) (0 ∷ 1 ∷ 2 ∷ []) ≡ accepted oneBox

@@ -42,10 +42,15 @@ gap n = (spare n, 0)
 
 -- a mesh body: coordinate count, words, vertex count, vertices; zero bits to a byte boundary, submesh count, submeshes
 unfoldable pub vertexFields : Mesh → List Field
-vertexFields x = (32, length (x .pool)) ∷ wordFields (x .pool) ++ ((32, vertexCount x) ∷ runFields (widthOf (length (x .pool))) (zeros 5) (x .vertices))
+vertexFields x =
+    (32, length (x .pool)) ∷ wordFields (x .pool)
+    ++ ((32, vertexCount x) ∷ runFields (widthOf (length (x .pool))) (zeros 5) (x .vertices))
 
 unfoldable pub meshFields : Mesh → List Field
-meshFields x = vertexFields x ++ (gap (bits (vertexFields x)) ∷ (32, length (x .submeshes)) ∷ submeshesFields (widthOf (vertexCount x)) (x .submeshes))
+meshFields x =
+    vertexFields x
+    ++ (gap (bits (vertexFields x)) ∷ (32, length (x .submeshes))
+    ∷ submeshesFields (widthOf (vertexCount x)) (x .submeshes))
 
 -- its bytes; the size of its box, and the box: size, 'mesh', body
 unfoldable pub meshBody : Mesh → List ℕ
@@ -61,13 +66,15 @@ meshBox x = bytesOf 4 (boxSize x) ++ bytesOf 4 meshType ++ meshBody x
 
 -- submeshes from three words each (texture, mode, point count), which take their points one after the other
 unfoldable pub submeshesOf : List ℕ → List ℕ → List Submesh
-submeshesOf (t ∷ m ∷ c ∷ more) points = record { texture = t; mode = m; points = take c points } ∷ submeshesOf more (drop c points)
+submeshesOf (t ∷ m ∷ c ∷ more) points =
+    record { texture = t; mode = m; points = take c points } ∷ submeshesOf more (drop c points)
 submeshesOf (t ∷ m ∷ []) points = []
 submeshesOf (t ∷ []) points = []
 submeshesOf [] points = []
 
 abbrev pub tablesMesh : List ℕ → List ℕ → List ℕ → List ℕ → Mesh
-tablesMesh pool coordinates rows points = record { pool = pool; vertices = coordinates; submeshes = submeshesOf rows points }
+tablesMesh pool coordinates rows points =
+    record { pool = pool; vertices = coordinates; submeshes = submeshesOf rows points }
 
 -- ---- 13
 
@@ -96,12 +103,15 @@ rowPoints (t ∷ m ∷ []) = 0
 rowPoints (t ∷ []) = 0
 rowPoints [] = 0
 
--- the tables are whole fives and whole threes; the counts are within 7; numbers are below the counts of what they index, as 8 asks; the rows' counts add up to the points; and the box is not too long
+-- the tables are whole fives and whole threes; the counts are within 7; numbers are below the counts of what they
+-- index, as 8 asks; the rows' counts add up to the points; and the box is not too long
 abbrev pub tests : List ℕ → List ℕ → List ℕ → List ℕ → List Bool
 tests pool coordinates rows points =
     leb 1 (length pool) ∷ leb (length pool) 10000
-    ∷ eqb (length coordinates % 5) 0 ∷ leb 1 (length coordinates / 5) ∷ leb (length coordinates / 5) 32000 ∷ allBelow (length pool) coordinates
-    ∷ leb 1 (length rows) ∷ eqb (length rows % 3) 0 ∷ rowsWithin rows ∷ eqb (rowPoints rows) (length points) ∷ allBelow (length coordinates / 5) points
+    ∷ eqb (length coordinates % 5) 0 ∷ leb 1 (length coordinates / 5) ∷ leb (length coordinates / 5) 32000
+    ∷ allBelow (length pool) coordinates
+    ∷ leb 1 (length rows) ∷ eqb (length rows % 3) 0 ∷ rowsWithin rows ∷ eqb (rowPoints rows) (length points)
+    ∷ allBelow (length coordinates / 5) points
     ∷ leb (boxSize (tablesMesh pool coordinates rows points)) 67108864 ∷ []
 
 unfoldable pub isMesh : List ℕ → List ℕ → List ℕ → List ℕ → Bool
@@ -111,4 +121,5 @@ isMesh pool coordinates rows points = every (tests pool coordinates rows points)
 
 unfoldable pub meshWritten : List ℕ → List ℕ → List ℕ → List ℕ → Verdict (List ℕ)
 meshWritten pool coordinates rows points =
-    cond (isMesh pool coordinates rows points) (accepted (meshBox (tablesMesh pool coordinates rows points))) (declined 13)
+    cond (isMesh pool coordinates rows points) (accepted (meshBox (tablesMesh pool coordinates rows points)))
+    (declined 13)

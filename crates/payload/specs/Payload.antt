@@ -1,4 +1,5 @@
--- The limit of a payload, which all readers share, and what kinds 0 and 1 begin with: the version byte and three free bytes.
+-- The limit of a payload, which all readers share, and what kinds 0 and 1 begin with: the version byte and three free
+-- bytes.
 use Prim.Native.Nat.{ℕ, _+_}
 use mathlib.Core.List.{List}
 use mathlib.Core.Bool.{cond}

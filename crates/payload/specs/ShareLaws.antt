@@ -1,4 +1,5 @@
--- The share that a padding of p pixels takes of a face F pixels wide: the test of its float says whether twice p is below F. The proof is in proofs/ShareProofs.antt.
+-- The share that a padding of p pixels takes of a face F pixels wide: the test of its float says whether twice p is
+-- below F. The proof is in proofs/ShareProofs.antt.
 use Prim.Native.Nat.{ℕ, _*_, _≤_}
 use mathlib.Core.Path.{_≡_}
 use lib.Dec.{ltb}

@@ -22,13 +22,16 @@ gridVertex sectors ring sector = ring * (sectors + 1) + sector
 -- The two triangles of a cell. Its corners are a, b at the ring and c, d at the next ring.
 abbrev pub upperTriangle : ℕ → ℕ → ℕ → List ℕ
 upperTriangle sectors ring sector =
-    gridVertex sectors ring sector ∷ gridVertex sectors (ring + 1) (sector + 1) ∷ gridVertex sectors ring (sector + 1) ∷ []
+    gridVertex sectors ring sector ∷ gridVertex sectors (ring + 1) (sector + 1)
+    ∷ gridVertex sectors ring (sector + 1) ∷ []
 
 abbrev pub lowerTriangle : ℕ → ℕ → ℕ → List ℕ
 lowerTriangle sectors ring sector =
-    gridVertex sectors ring sector ∷ gridVertex sectors (ring + 1) sector ∷ gridVertex sectors (ring + 1) (sector + 1) ∷ []
+    gridVertex sectors ring sector ∷ gridVertex sectors (ring + 1) sector
+    ∷ gridVertex sectors (ring + 1) (sector + 1) ∷ []
 
--- At the zenith, where nothing is cropped at the top, a and b of the first row are one point; at the nadir so are c and d of the last. A triangle with both is left out.
+-- At the zenith, where nothing is cropped at the top, a and b of the first row are one point; at the nadir so are c
+-- and d of the last. A triangle with both is left out.
 unfoldable pub gridCell : ℕ → ℕ → Bool → Bool → ℕ → ℕ → List ℕ
 gridCell rings sectors zenith nadir ring sector =
     cond (zenith && eqb ring 0) [] (upperTriangle sectors ring sector)

@@ -1,11 +1,9 @@
 -- A mesh body as four tables: what the call says, and what it leaves in the buffers.
 use Prim.Native.Nat.{ℕ}
 use mathlib.Core.List.{List, [], _∷_, _++_}
-use mathlib.Core.Bool.{Bool, _&&_, cond}
-use lib.Dec.{leb}
 use lib.ListN.{length}
 use Rattle.bits.specs.Verdict.{Verdict, accepted, needs, declined, mapped}
-use Rattle.payload.specs.Fill.{begun}
+use Rattle.payload.specs.Lent.{Plan}
 use Rattle.payload.specs.Payload.{limited}
 use Rattle.payload.specs.Mesh.{Submesh, Mesh}
 use Rattle.payload.specs.MeshRead.{readMesh}
@@ -58,26 +56,17 @@ abbrev pub lengthsSays : MeshMeasured → Verdict TableLengths
 lengthsSays (M.Lengths n) = accepted n
 lengthsSays (M.Declined k) = declined k
 
--- ---- the tables and four buffers of a, b, c and d elements
+-- ---- reading a body into four buffers
 
-unfoldable pub tablesFit : Mesh → ℕ → ℕ → ℕ → ℕ → Bool
-tablesFit x a b c d =
-    ((leb (length (poolTable x)) a && leb (length (coordinateTable x)) b) && leb (length (submeshTable x)) c) && leb (length (pointTable x)) d
+-- the lengths of its tables, and the tables
+abbrev pub tablesOf : Mesh → Plan TableLengths
+tablesOf x =
+    record { answer = tableLengths x; lists = poolTable x ∷ coordinateTable x ∷ submeshTable x ∷ pointTable x ∷ [] }
 
--- the four used lengths where the tables fit, and else the four needed ones (12), in the same order
-unfoldable pub tablesAnswer : Mesh → ℕ → ℕ → ℕ → ℕ → Verdict TableLengths
-tablesAnswer x a b c d =
-    cond (tablesFit x a b c d)
-    (accepted (tableLengths x))
-    (needs (length (poolTable x) ∷ length (coordinateTable x) ∷ length (submeshTable x) ∷ length (pointTable x) ∷ []))
+abbrev pub tablesPlan : List ℕ → Verdict (Plan TableLengths)
+tablesPlan s = mapped tablesOf (bodyRead s)
 
 abbrev pub tablesSays : MeshAnswer → Verdict TableLengths
 tablesSays (A.Tables n) = accepted n
 tablesSays (A.Needs n) = needs (n .pool ∷ n .coordinates ∷ n .submeshes ∷ n .points ∷ [])
 tablesSays (A.Declined k) = declined k
-
--- a buffer afterwards: its table at the front where all four fit, and the rest, or all of it, as it was
-abbrev pub tablesInto : (Mesh → List ℕ) → Verdict Mesh → ℕ → ℕ → ℕ → ℕ → List ℕ → List ℕ
-tablesInto table (accepted x) a b c d out = begun (tablesFit x a b c d) (table x) out
-tablesInto table (needs k) a b c d out = out
-tablesInto table (declined k) a b c d out = out

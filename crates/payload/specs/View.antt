@@ -21,7 +21,9 @@ use Rattle.payload.specs.declared.view.Patch.the-variants as B
 -- ---- the raw numbers of the layout types
 
 abbrev pub layoutOf : ℕ → StereoLayout
-layoutOf n = cond (eqb n 1) S.OverUnder (cond (eqb n 2) S.SideBySide (cond (eqb n 3) S.Anaglyph (cond (eqb n 4) S.RowInterleaved S.Mono)))
+layoutOf n =
+    cond (eqb n 1) S.OverUnder
+    (cond (eqb n 2) S.SideBySide (cond (eqb n 3) S.Anaglyph (cond (eqb n 4) S.RowInterleaved S.Mono)))
 
 abbrev pub pairOf : ℕ → AnaglyphPair
 pairOf n = cond (eqb n 1) A.GreenMagenta (cond (eqb n 2) A.YellowBlue A.RedCyan)

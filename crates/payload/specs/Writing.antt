@@ -33,7 +33,8 @@ abbrev pub outcome : List ℕ → BitWriter → List Field → List ℕ
 outcome out from l = sets out (from .at) (packed ((from .bits, waiting from) ∷ l))
 
 -- to write l from `from` on into `out` comes to the same as to write l′ from `to` on into `out′`, whatever follows
-pub record Advances (out : List ℕ) (from : BitWriter) (l : List Field) (out′ : List ℕ) (to : BitWriter) (l′ : List Field) : Type 0 where
+pub record Advances (out : List ℕ) (from : BitWriter) (l : List Field) (out′ : List ℕ) (to : BitWriter)
+    (l′ : List Field) : Type 0 where
   pub few : to .bits < 32
   pub place : 8 * to .at + to .bits + bits l′ ≡ 8 * from .at + from .bits + bits l
   pub long : length out′ ≡ length out

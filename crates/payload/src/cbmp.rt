@@ -6,8 +6,9 @@ use super::words::fill_words;
 use bits::ByteCursor;
 use bits::WordRead;
 ghost use mathlib.Core.Path.{_≡_};
-ghost use lib.ListN.{length};
-ghost use Rattle.payload.specs.Fill.{filledSays, answered, front};
+ghost use mathlib.Core.List.{[], _∷_};
+ghost use Rattle.payload.specs.Fill.{filledSays};
+ghost use Rattle.payload.specs.Lent.{inItems, answerFor, buffersAfter, atEntry};
 ghost use Rattle.payload.specs.Payload.{limited};
 ghost use Rattle.payload.specs.Cbmp.{layoutThenPadding, cbmpRead, cbmpSays, cbmpWritten};
 
@@ -50,8 +51,10 @@ pub fn parse_cbmp(payload: &[u8]) -> CbmpAnswer
 
 // Writes a cbmp payload of 12 bytes at the front of a buffer: 5, then 12.
 pub fn write_cbmp(padding: u32, out: &mut [u8]) -> Filled
-    ensures { λ r. ⌜ filledSays r ≡ answered 1 (cbmpWritten padding) (length (now (out .entry))) ⌝ }
-    ensures { λ _. ⌜ now (out .exit) ≡ front (cbmpWritten padding) (now (out .entry)) ⌝ }
+    ensures answer { λ r. ⌜ filledSays r
+        ≡ answerFor (inItems 1 (cbmpWritten padding)) (atEntry (out ∷ [])) ⌝ }
+    ensures buffers { λ _. ⌜ now (out .exit) ∷ []
+        ≡ buffersAfter (inItems 1 (cbmpWritten padding)) (atEntry (out ∷ [])) ⌝ }
 {
     if 4096 < padding {
         return Filled::Declined(5);

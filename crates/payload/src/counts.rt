@@ -1,7 +1,8 @@
 // How many vertices and indices a grid asks for.
 ghost use mathlib.Core.Path.{_≡_};
 ghost use Prim.Native.Nat.{_*_};
-ghost use Rattle.payload.specs.Count.{countedSays, counted, vertexCount, indexCount, cubemapVertexCount, cubemapIndexCount};
+ghost use Rattle.payload.specs.Count.{countedSays, counted, vertexCount, indexCount};
+ghost use Rattle.payload.specs.Count.{cubemapVertexCount, cubemapIndexCount};
 
 // A count, or the number of a refusal.
 pub enum Counted {

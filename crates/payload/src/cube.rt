@@ -6,12 +6,15 @@ use bits::float_bits;
 use bits::nearest_f32;
 ghost use mathlib.Core.Path.{_≡_};
 ghost use Prim.Native.Nat.{_+_, _<_, _≤_};
+ghost use mathlib.Core.List.{[], _∷_};
 ghost use lib.ListN.{length};
 ghost use lib.Seq.{sets};
 ghost use lib.Ieee.Scale.{finite};
-ghost use Rattle.payload.specs.Fill.{answered, front, filledSays, bothLengths, lengthsSaid};
+ghost use Rattle.payload.specs.Fill.{filledSays, bothLengths, lengthsSaid};
+ghost use Rattle.payload.specs.Lent.{inItems, answerFor, buffersAfter, atEntry};
 ghost use Rattle.payload.specs.Float.{ratio};
-ghost use Rattle.payload.specs.Cube.{cellsUsable, shareUsable, cubeRow, cubeFace, cubeTriangles, cubeNumbers, pointFace, cubePoints, cubeFloats};
+ghost use Rattle.payload.specs.Cube.{cellsUsable, shareUsable, cubeRow, cubeFace, cubeTriangles, cubeNumbers};
+ghost use Rattle.payload.specs.Cube.{pointFace, cubePoints, cubeFloats};
 ghost use Rattle.payload.specs.CubeParts.{cellOf, faceOf, along, between, pointOf, rowOf};
 
 fn cells_usable(cells: u32) -> bool
@@ -80,8 +83,10 @@ fn index_cube(cells: u32, out: &mut [u16])
 
 // Puts the triangles into out: 9, 12, or how many numbers.
 pub fn cubemap_indices(cells: u32, out: &mut [u16]) -> Filled
-    ensures { λ r. ⌜ filledSays r ≡ answered 1 (cubeNumbers cells) (length (now (out .entry))) ⌝ }
-    ensures { λ _. ⌜ now (out .exit) ≡ front (cubeNumbers cells) (now (out .entry)) ⌝ }
+    ensures answer { λ r. ⌜ filledSays r
+        ≡ answerFor (inItems 1 (cubeNumbers cells)) (atEntry (out ∷ [])) ⌝ }
+    ensures buffers { λ _. ⌜ now (out .exit) ∷ []
+        ≡ buffersAfter (inItems 1 (cubeNumbers cells)) (atEntry (out ∷ [])) ⌝ }
 {
     if !cells_usable(cells) {
         return Filled::Declined(9);
@@ -253,8 +258,10 @@ fn share_usable(x: f32) -> bool
 
 // Puts the vertices into out, x y z u v each, as the bits of floats: 9, 11, 12, or how many vertices.
 pub fn cubemap_mesh(cells: u32, radius: f32, padding: f32, out: &mut [u32]) -> Filled
-    ensures { λ r. ⌜ filledSays r ≡ answered 5 (cubeFloats cells radius padding) (length (now (out .entry))) ⌝ }
-    ensures { λ _. ⌜ now (out .exit) ≡ front (cubeFloats cells radius padding) (now (out .entry)) ⌝ }
+    ensures answer { λ r. ⌜ filledSays r
+        ≡ answerFor (inItems 5 (cubeFloats cells radius padding)) (atEntry (out ∷ [])) ⌝ }
+    ensures buffers { λ _. ⌜ now (out .exit) ∷ []
+        ≡ buffersAfter (inItems 5 (cubeFloats cells radius padding)) (atEntry (out ∷ [])) ⌝ }
 {
     if !cells_usable(cells) {
         return Filled::Declined(9);

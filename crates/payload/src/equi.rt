@@ -7,11 +7,13 @@ use super::words::fill_words;
 use bits::ByteCursor;
 use bits::WordRead;
 ghost use mathlib.Core.Path.{_≡_};
-ghost use lib.ListN.{length};
+ghost use mathlib.Core.List.{[], _∷_};
 ghost use Rattle.bits.specs.Verdict.{mapped};
-ghost use Rattle.payload.specs.Fill.{filledSays, answered, front};
+ghost use Rattle.payload.specs.Fill.{filledSays};
+ghost use Rattle.payload.specs.Lent.{inItems, answerFor, buffersAfter, atEntry};
 ghost use Rattle.payload.specs.Payload.{limited};
-ghost use Rattle.payload.specs.Equi.{cropOf, fourWords, equiFields, equiUsable, equiRead, withCrop, equiReadSays, equiSays, equiWritten};
+ghost use Rattle.payload.specs.Equi.{cropOf, fourWords, equiFields, equiUsable, equiRead, withCrop};
+ghost use Rattle.payload.specs.Equi.{equiReadSays, equiSays, equiWritten};
 
 // The four fields, each a fraction of 32 bits.
 pub struct EquiFields {
@@ -98,8 +100,10 @@ pub fn parse_equi(payload: &[u8]) -> EquiAnswer
 
 // Writes an equi payload of 20 bytes at the front of a buffer: 10, then 12.
 pub fn write_equi(fields: EquiFields, out: &mut [u8]) -> Filled
-    ensures { λ r. ⌜ filledSays r ≡ answered 1 (equiWritten fields) (length (now (out .entry))) ⌝ }
-    ensures { λ _. ⌜ now (out .exit) ≡ front (equiWritten fields) (now (out .entry)) ⌝ }
+    ensures answer { λ r. ⌜ filledSays r
+        ≡ answerFor (inItems 1 (equiWritten fields)) (atEntry (out ∷ [])) ⌝ }
+    ensures buffers { λ _. ⌜ now (out .exit) ∷ []
+        ≡ buffersAfter (inItems 1 (equiWritten fields)) (atEntry (out ∷ [])) ⌝ }
 {
     if !fields.crop().is_usable() {
         return Filled::Declined(10);

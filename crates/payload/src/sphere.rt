@@ -1,4 +1,5 @@
-// The sphere's grid of rings and sectors: its triangles, as vertex numbers, and its texture coordinates, as bit patterns.
+// The sphere's grid of rings and sectors: its triangles, as vertex numbers, and its texture coordinates, as bit
+// patterns.
 use super::answers::Filled;
 use super::answers::GridLengths;
 use super::crop::Bounds;
@@ -6,13 +7,16 @@ use super::put_triangle;
 ghost use mathlib.Core.Path.{_≡_};
 ghost use mathlib.Core.Bool.{true};
 ghost use Prim.Native.Nat.{_+_, _≤_, _<_};
+ghost use mathlib.Core.List.{[], _∷_};
 ghost use lib.ListN.{length};
 ghost use lib.Seq.{sets};
 ghost use Rattle.bits.specs.Float.{bitsOf};
-ghost use Rattle.payload.specs.Fill.{each, filledSays, answered, front, bothLengths, lengthsSaid};
+ghost use Rattle.payload.specs.Fill.{each, filledSays, bothLengths, lengthsSaid};
+ghost use Rattle.payload.specs.Lent.{inItems, answerFor, buffersAfter, atEntry};
 ghost use Rattle.payload.specs.Float.{f1, _⊖_, ratio};
 ghost use Rattle.payload.specs.Crop.{full};
-ghost use Rattle.payload.specs.Sphere.{gridUsable, shifted, cellOn, gridRow, gridTriangles, sphereNumbers, uvRow, gridUvs, sphereUvs};
+ghost use Rattle.payload.specs.Sphere.{gridUsable, shifted, cellOn, gridRow, gridTriangles, sphereNumbers};
+ghost use Rattle.payload.specs.Sphere.{uvRow, gridUvs, sphereUvs};
 
 // Whether the grid is a closed surface whose vertex numbers fit a u16. For all u32, the last number fits a u64.
 fn grid_usable(rings: u32, sectors: u32) -> bool
@@ -22,7 +26,8 @@ fn grid_usable(rings: u32, sectors: u32) -> bool
     (2 <= rings) & (3 <= sectors) & (last <= 65_535)
 }
 
-// From place at on, n triangles: the numbers of each are one more than those of the one before. Answers the place after them.
+// From place at on, n triangles: the numbers of each are one more than those of the one before. Answers the place after
+// them.
 fn fill_triangles(a: u16, b: u16, c: u16, n: u16, at: usize, out: &mut [u16]) -> usize
     requires { ⌜ (a + n ≤ 65536) × (b + n ≤ 65536) × (c + n ≤ 65536) ⌝ }
     requires { ⌜ at + length (each (shifted a b c) n) ≤ length (now out) ⌝ }
@@ -110,8 +115,10 @@ fn index_total(rings: u32, sectors: u32, zenith: bool, nadir: bool) -> usize
 
 // The numbers of the triangles of the covered patch, row by row. Only an edge that is not cropped reaches a pole.
 pub fn sphere_indices_bounded(rings: u32, sectors: u32, bounds: Bounds, out: &mut [u16]) -> Filled
-    ensures { λ r. ⌜ filledSays r ≡ answered 1 (sphereNumbers rings sectors bounds) (length (now (out .entry))) ⌝ }
-    ensures { λ _. ⌜ now (out .exit) ≡ front (sphereNumbers rings sectors bounds) (now (out .entry)) ⌝ }
+    ensures answer { λ r. ⌜ filledSays r
+        ≡ answerFor (inItems 1 (sphereNumbers rings sectors bounds)) (atEntry (out ∷ [])) ⌝ }
+    ensures buffers { λ _. ⌜ now (out .exit) ∷ []
+        ≡ buffersAfter (inItems 1 (sphereNumbers rings sectors bounds)) (atEntry (out ∷ [])) ⌝ }
 {
     if !grid_usable(rings, sectors) {
         return Filled::Declined(9);
@@ -131,8 +138,10 @@ pub fn sphere_indices_bounded(rings: u32, sectors: u32, bounds: Bounds, out: &mu
 
 // The same for the whole sphere.
 pub fn sphere_indices(rings: u32, sectors: u32, out: &mut [u16]) -> Filled
-    ensures { λ r. ⌜ filledSays r ≡ answered 1 (sphereNumbers rings sectors full) (length (now (out .entry))) ⌝ }
-    ensures { λ _. ⌜ now (out .exit) ≡ front (sphereNumbers rings sectors full) (now (out .entry)) ⌝ }
+    ensures answer { λ r. ⌜ filledSays r
+        ≡ answerFor (inItems 1 (sphereNumbers rings sectors full)) (atEntry (out ∷ [])) ⌝ }
+    ensures buffers { λ _. ⌜ now (out .exit) ∷ []
+        ≡ buffersAfter (inItems 1 (sphereNumbers rings sectors full)) (atEntry (out ∷ [])) ⌝ }
 {
     sphere_indices_bounded(rings, sectors, Bounds::FULL, out)
 }
@@ -188,8 +197,10 @@ fn fill_uv_rows(rings: u32, sectors: u32, out: &mut [u32])
 
 // u and v of each vertex, row by row: the last two fields of the Rust's `sphere_mesh_bounded`.
 pub fn sphere_uvs(rings: u32, sectors: u32, out: &mut [u32]) -> Filled
-    ensures { λ r. ⌜ filledSays r ≡ answered 2 (sphereUvs rings sectors) (length (now (out .entry))) ⌝ }
-    ensures { λ _. ⌜ now (out .exit) ≡ front (sphereUvs rings sectors) (now (out .entry)) ⌝ }
+    ensures answer { λ r. ⌜ filledSays r
+        ≡ answerFor (inItems 2 (sphereUvs rings sectors)) (atEntry (out ∷ [])) ⌝ }
+    ensures buffers { λ _. ⌜ now (out .exit) ∷ []
+        ≡ buffersAfter (inItems 2 (sphereUvs rings sectors)) (atEntry (out ∷ [])) ⌝ }
 {
     if !grid_usable(rings, sectors) {
         return Filled::Declined(9);

@@ -1,6 +1,7 @@
 // The viewer's small calls: stereo layouts, projections, texture windows, zoom and field of view.
 ghost use mathlib.Core.Path.{_≡_};
-ghost use Rattle.payload.specs.View.{layoutOf, pairOf, projectionOf, windowed, panoramic, patchOf, windowOf, mixOf, clamped, unusable, fovForZoom, zoomForFov};
+ghost use Rattle.payload.specs.View.{layoutOf, pairOf, projectionOf, windowed, panoramic, patchOf};
+ghost use Rattle.payload.specs.View.{windowOf, mixOf, clamped, unusable, fovForZoom, zoomForFov};
 use super::crop::Bounds;
 
 // Limits on the field of view, in degrees of vertical angle.

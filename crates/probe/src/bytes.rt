@@ -16,8 +16,8 @@ ghost use Rattle.probe.specs.Answer.{answers, leaves, told, one, two, it
 
 #[no_mangle]
 pub extern "C" fn probe_byte_new(words: &mut [u64]) -> i64
-    ensures { λ r. ⌜ r ≡ answers (accepted (one 0)) ⌝ }
-    ensures { λ _. ⌜ now (words .exit) ≡ leaves (now (words .entry)) (accepted (one 0)) ⌝ }
+    ensures answer { λ r. ⌜ r ≡ answers (accepted (one 0)) ⌝ }
+    ensures words { λ _. ⌜ now (words .exit) ≡ leaves (now (words .entry)) (accepted (one 0)) ⌝ }
 {
     let c = ByteCursor::new();
     tell(words, Reply::One(c.at as u64))
@@ -25,56 +25,61 @@ pub extern "C" fn probe_byte_new(words: &mut [u64]) -> i64
 
 #[no_mangle]
 pub extern "C" fn probe_position(at: usize, words: &mut [u64]) -> i64
-    ensures { λ r. ⌜ r ≡ answers (accepted (one at)) ⌝ }
-    ensures { λ _. ⌜ now (words .exit) ≡ leaves (now (words .entry)) (accepted (one at)) ⌝ }
+    ensures answer { λ r. ⌜ r ≡ answers (accepted (one at)) ⌝ }
+    ensures words { λ _. ⌜ now (words .exit) ≡ leaves (now (words .entry)) (accepted (one at)) ⌝ }
 {
     tell(words, Reply::One(ByteCursor { at }.position() as u64))
 }
 
 #[no_mangle]
 pub extern "C" fn probe_remaining(s: &[u8], at: usize, words: &mut [u64]) -> i64
-    ensures { λ r. ⌜ r ≡ answers (accepted (one (length (now (s .entry)) - at))) ⌝ }
-    ensures { λ _. ⌜ now (words .exit) ≡ leaves (now (words .entry)) (accepted (one (length (now (s .entry)) - at))) ⌝ }
+    ensures answer { λ r. ⌜ r ≡ answers (accepted (one (length (now (s .entry)) - at))) ⌝ }
+    ensures words { λ _. ⌜ now (words .exit)
+        ≡ leaves (now (words .entry)) (accepted (one (length (now (s .entry)) - at))) ⌝ }
 {
     tell(words, Reply::One(ByteCursor { at }.remaining(s) as u64))
 }
 
 #[no_mangle]
 pub extern "C" fn probe_seek(s: &[u8], at: usize, to: usize, words: &mut [u64]) -> i64
-    ensures { λ r. ⌜ r ≡ answers (told one (placeIn (now (s .entry)) to)) ⌝ }
-    ensures { λ _. ⌜ now (words .exit) ≡ leaves (now (words .entry)) (told one (placeIn (now (s .entry)) to)) ⌝ }
+    ensures answer { λ r. ⌜ r ≡ answers (told one (placeIn (now (s .entry)) to)) ⌝ }
+    ensures words { λ _. ⌜ now (words .exit) ≡ leaves (now (words .entry)) (told one (placeIn (now (s .entry)) to)) ⌝ }
 {
     tell(words, of_seek(ByteCursor { at }.seek(s, to)))
 }
 
 #[no_mangle]
 pub extern "C" fn probe_skip(s: &[u8], at: usize, n: usize, words: &mut [u64]) -> i64
-    ensures { λ r. ⌜ r ≡ answers (told one (placeIn (now (s .entry)) (at + n))) ⌝ }
-    ensures { λ _. ⌜ now (words .exit) ≡ leaves (now (words .entry)) (told one (placeIn (now (s .entry)) (at + n))) ⌝ }
+    ensures answer { λ r. ⌜ r ≡ answers (told one (placeIn (now (s .entry)) (at + n))) ⌝ }
+    ensures words { λ _. ⌜ now (words .exit)
+        ≡ leaves (now (words .entry)) (told one (placeIn (now (s .entry)) (at + n))) ⌝ }
 {
     tell(words, of_seek(ByteCursor { at }.skip(s, n)))
 }
 
 #[no_mangle]
 pub extern "C" fn probe_u8(s: &[u8], at: usize, words: &mut [u64]) -> i64
-    ensures { λ r. ⌜ r ≡ answers (told two (numberAt 1 (now (s .entry)) at)) ⌝ }
-    ensures { λ _. ⌜ now (words .exit) ≡ leaves (now (words .entry)) (told two (numberAt 1 (now (s .entry)) at)) ⌝ }
+    ensures answer { λ r. ⌜ r ≡ answers (told two (numberAt 1 (now (s .entry)) at)) ⌝ }
+    ensures words { λ _. ⌜ now (words .exit)
+        ≡ leaves (now (words .entry)) (told two (numberAt 1 (now (s .entry)) at)) ⌝ }
 {
     tell(words, of_byte(ByteCursor { at }.u8(s)))
 }
 
 #[no_mangle]
 pub extern "C" fn probe_u32(s: &[u8], at: usize, words: &mut [u64]) -> i64
-    ensures { λ r. ⌜ r ≡ answers (told two (numberAt 4 (now (s .entry)) at)) ⌝ }
-    ensures { λ _. ⌜ now (words .exit) ≡ leaves (now (words .entry)) (told two (numberAt 4 (now (s .entry)) at)) ⌝ }
+    ensures answer { λ r. ⌜ r ≡ answers (told two (numberAt 4 (now (s .entry)) at)) ⌝ }
+    ensures words { λ _. ⌜ now (words .exit)
+        ≡ leaves (now (words .entry)) (told two (numberAt 4 (now (s .entry)) at)) ⌝ }
 {
     tell(words, of_word(ByteCursor { at }.u32(s)))
 }
 
 #[no_mangle]
 pub extern "C" fn probe_header(s: &[u8], at: usize, words: &mut [u64]) -> i64
-    ensures { λ r. ⌜ r ≡ answers (told item (headerAt (now (s .entry)) at)) ⌝ }
-    ensures { λ _. ⌜ now (words .exit) ≡ leaves (now (words .entry)) (told item (headerAt (now (s .entry)) at)) ⌝ }
+    ensures answer { λ r. ⌜ r ≡ answers (told item (headerAt (now (s .entry)) at)) ⌝ }
+    ensures words { λ _. ⌜ now (words .exit)
+        ≡ leaves (now (words .entry)) (told item (headerAt (now (s .entry)) at)) ⌝ }
 {
     tell(words, of_header(bits::box_header(s, ByteCursor { at })))
 }

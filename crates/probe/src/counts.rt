@@ -17,32 +17,32 @@ fn of_count(x: Counted) -> Reply
 
 #[no_mangle]
 pub extern "C" fn probe_vertex_count(rings: u32, sectors: u32, words: &mut [u64]) -> i64
-    ensures { λ r. ⌜ r ≡ answers (told one (vertexCount rings sectors)) ⌝ }
-    ensures { λ _. ⌜ now (words .exit) ≡ leaves (now (words .entry)) (told one (vertexCount rings sectors)) ⌝ }
+    ensures answer { λ r. ⌜ r ≡ answers (told one (vertexCount rings sectors)) ⌝ }
+    ensures words { λ _. ⌜ now (words .exit) ≡ leaves (now (words .entry)) (told one (vertexCount rings sectors)) ⌝ }
 {
     tell(words, of_count(payload::vertex_count(rings, sectors)))
 }
 
 #[no_mangle]
 pub extern "C" fn probe_index_count(rings: u32, sectors: u32, words: &mut [u64]) -> i64
-    ensures { λ r. ⌜ r ≡ answers (told one (indexCount rings sectors)) ⌝ }
-    ensures { λ _. ⌜ now (words .exit) ≡ leaves (now (words .entry)) (told one (indexCount rings sectors)) ⌝ }
+    ensures answer { λ r. ⌜ r ≡ answers (told one (indexCount rings sectors)) ⌝ }
+    ensures words { λ _. ⌜ now (words .exit) ≡ leaves (now (words .entry)) (told one (indexCount rings sectors)) ⌝ }
 {
     tell(words, of_count(payload::index_count(rings, sectors)))
 }
 
 #[no_mangle]
 pub extern "C" fn probe_cubemap_vertex_count(cells: u32, words: &mut [u64]) -> i64
-    ensures { λ r. ⌜ r ≡ answers (told one (cubemapVertexCount cells)) ⌝ }
-    ensures { λ _. ⌜ now (words .exit) ≡ leaves (now (words .entry)) (told one (cubemapVertexCount cells)) ⌝ }
+    ensures answer { λ r. ⌜ r ≡ answers (told one (cubemapVertexCount cells)) ⌝ }
+    ensures words { λ _. ⌜ now (words .exit) ≡ leaves (now (words .entry)) (told one (cubemapVertexCount cells)) ⌝ }
 {
     tell(words, of_count(payload::cubemap_vertex_count(cells)))
 }
 
 #[no_mangle]
 pub extern "C" fn probe_cubemap_index_count(cells: u32, words: &mut [u64]) -> i64
-    ensures { λ r. ⌜ r ≡ answers (told one (cubemapIndexCount cells)) ⌝ }
-    ensures { λ _. ⌜ now (words .exit) ≡ leaves (now (words .entry)) (told one (cubemapIndexCount cells)) ⌝ }
+    ensures answer { λ r. ⌜ r ≡ answers (told one (cubemapIndexCount cells)) ⌝ }
+    ensures words { λ _. ⌜ now (words .exit) ≡ leaves (now (words .entry)) (told one (cubemapIndexCount cells)) ⌝ }
 {
     tell(words, of_count(payload::cubemap_index_count(cells)))
 }

@@ -9,9 +9,9 @@ use payload::CbmpAnswer;
 use payload::EquiAnswer;
 use payload::EquiFields;
 ghost use mathlib.Core.Path.{_≡_};
-ghost use lib.ListN.{length};
+ghost use mathlib.Core.List.{[], _∷_};
 ghost use Rattle.bits.specs.Verdict.{mapped};
-ghost use Rattle.payload.specs.Fill.{answered, front};
+ghost use Rattle.payload.specs.Lent.{inItems, answerFor, buffersAfter, atEntry};
 ghost use Rattle.payload.specs.Crop.{usable};
 ghost use Rattle.payload.specs.Payload.{limited};
 ghost use Rattle.payload.specs.Equi.{equiRead, withCrop, equiSays, equiWritten};
@@ -52,8 +52,10 @@ fn of_equi(x: EquiAnswer) -> Reply
 
 #[no_mangle]
 pub extern "C" fn probe_parse_equi(payload: &[u8], words: &mut [u64]) -> i64
-    ensures { λ r. ⌜ r ≡ answers (told reading (limited (now (payload .entry)) (mapped withCrop (equiRead (now (payload .entry)))))) ⌝ }
-    ensures { λ _. ⌜ now (words .exit) ≡ leaves (now (words .entry)) (told reading (limited (now (payload .entry)) (mapped withCrop (equiRead (now (payload .entry)))))) ⌝ }
+    ensures answer { λ r. ⌜ r ≡ answers (told reading
+        (limited (now (payload .entry)) (mapped withCrop (equiRead (now (payload .entry)))))) ⌝ }
+    ensures words { λ _. ⌜ now (words .exit) ≡ leaves (now (words .entry))
+        (told reading (limited (now (payload .entry)) (mapped withCrop (equiRead (now (payload .entry)))))) ⌝ }
 {
     tell(words, of_equi(payload::parse_equi(payload)))
 }
@@ -67,9 +69,12 @@ pub extern "C" fn probe_write_equi(
     out: &mut [u8],
     words: &mut [u64],
 ) -> i64
-    ensures { λ z. ⌜ z ≡ answers (told one (answered 1 (equiWritten (fields t b l r)) (length (now (out .entry))))) ⌝ }
-    ensures { λ _. ⌜ now (words .exit) ≡ leaves (now (words .entry)) (told one (answered 1 (equiWritten (fields t b l r)) (length (now (out .entry))))) ⌝ }
-    ensures { λ _. ⌜ now (out .exit) ≡ front (equiWritten (fields t b l r)) (now (out .entry)) ⌝ }
+    ensures answer { λ z. ⌜ z ≡ answers (told one
+        (answerFor (inItems 1 (equiWritten (fields t b l r))) (atEntry (out ∷ [])))) ⌝ }
+    ensures words { λ _. ⌜ now (words .exit) ≡ leaves (now (words .entry)) (told one
+        (answerFor (inItems 1 (equiWritten (fields t b l r))) (atEntry (out ∷ [])))) ⌝ }
+    ensures buffers { λ _. ⌜ now (out .exit) ∷ []
+        ≡ buffersAfter (inItems 1 (equiWritten (fields t b l r))) (atEntry (out ∷ [])) ⌝ }
 {
     tell(
         words,
@@ -88,17 +93,22 @@ fn of_cbmp(x: CbmpAnswer) -> Reply
 
 #[no_mangle]
 pub extern "C" fn probe_parse_cbmp(payload: &[u8], words: &mut [u64]) -> i64
-    ensures { λ r. ⌜ r ≡ answers (told one (limited (now (payload .entry)) (cbmpRead (now (payload .entry))))) ⌝ }
-    ensures { λ _. ⌜ now (words .exit) ≡ leaves (now (words .entry)) (told one (limited (now (payload .entry)) (cbmpRead (now (payload .entry))))) ⌝ }
+    ensures answer { λ r. ⌜ r
+        ≡ answers (told one (limited (now (payload .entry)) (cbmpRead (now (payload .entry))))) ⌝ }
+    ensures words { λ _. ⌜ now (words .exit)
+        ≡ leaves (now (words .entry)) (told one (limited (now (payload .entry)) (cbmpRead (now (payload .entry))))) ⌝ }
 {
     tell(words, of_cbmp(payload::parse_cbmp(payload)))
 }
 
 #[no_mangle]
 pub extern "C" fn probe_write_cbmp(padding: u32, out: &mut [u8], words: &mut [u64]) -> i64
-    ensures { λ r. ⌜ r ≡ answers (told one (answered 1 (cbmpWritten padding) (length (now (out .entry))))) ⌝ }
-    ensures { λ _. ⌜ now (words .exit) ≡ leaves (now (words .entry)) (told one (answered 1 (cbmpWritten padding) (length (now (out .entry))))) ⌝ }
-    ensures { λ _. ⌜ now (out .exit) ≡ front (cbmpWritten padding) (now (out .entry)) ⌝ }
+    ensures answer { λ r. ⌜ r ≡ answers (told one
+        (answerFor (inItems 1 (cbmpWritten padding)) (atEntry (out ∷ [])))) ⌝ }
+    ensures words { λ _. ⌜ now (words .exit) ≡ leaves (now (words .entry)) (told one
+        (answerFor (inItems 1 (cbmpWritten padding)) (atEntry (out ∷ [])))) ⌝ }
+    ensures buffers { λ _. ⌜ now (out .exit) ∷ []
+        ≡ buffersAfter (inItems 1 (cbmpWritten padding)) (atEntry (out ∷ [])) ⌝ }
 {
     tell(words, of_filled(payload::write_cbmp(padding, out)))
 }

@@ -14,8 +14,9 @@ ghost use Rattle.probe.specs.Total.{totalAt, wrapped};
 
 #[no_mangle]
 pub extern "C" fn probe_bit_new(byte_offset: usize, words: &mut [u64]) -> i64
-    ensures { λ r. ⌜ r ≡ answers (accepted (one (capped (8 * «byte_offset»)))) ⌝ }
-    ensures { λ _. ⌜ now (words .exit) ≡ leaves (now (words .entry)) (accepted (one (capped (8 * «byte_offset»)))) ⌝ }
+    ensures answer { λ r. ⌜ r ≡ answers (accepted (one (capped (8 * «byte_offset»)))) ⌝ }
+    ensures words { λ _. ⌜ now (words .exit)
+        ≡ leaves (now (words .entry)) (accepted (one (capped (8 * «byte_offset»)))) ⌝ }
 {
     let c = BitCursor::new(byte_offset);
     tell(words, Reply::One(c.bit as u64))
@@ -23,8 +24,9 @@ pub extern "C" fn probe_bit_new(byte_offset: usize, words: &mut [u64]) -> i64
 
 #[no_mangle]
 pub extern "C" fn probe_align(bit: usize, words: &mut [u64]) -> i64
-    ensures { λ r. ⌜ r ≡ answers (accepted (one (capped (8 * ((bit + 7) / 8))))) ⌝ }
-    ensures { λ _. ⌜ now (words .exit) ≡ leaves (now (words .entry)) (accepted (one (capped (8 * ((bit + 7) / 8))))) ⌝ }
+    ensures answer { λ r. ⌜ r ≡ answers (accepted (one (capped (8 * ((bit + 7) / 8))))) ⌝ }
+    ensures words { λ _. ⌜ now (words .exit)
+        ≡ leaves (now (words .entry)) (accepted (one (capped (8 * ((bit + 7) / 8))))) ⌝ }
 {
     let c = BitCursor { bit }.align_to_byte();
     tell(words, Reply::One(c.bit as u64))
@@ -33,8 +35,9 @@ pub extern "C" fn probe_align(bit: usize, words: &mut [u64]) -> i64
 // `read` asks that the width is at most 32: a wider one is answered here.
 #[no_mangle]
 pub extern "C" fn probe_read(s: &[u8], bit: usize, width: u32, words: &mut [u64]) -> i64
-    ensures { λ r. ⌜ r ≡ answers (told two (asked width (fieldAt (now (s .entry)) bit width))) ⌝ }
-    ensures { λ _. ⌜ now (words .exit) ≡ leaves (now (words .entry)) (told two (asked width (fieldAt (now (s .entry)) bit width))) ⌝ }
+    ensures answer { λ r. ⌜ r ≡ answers (told two (asked width (fieldAt (now (s .entry)) bit width))) ⌝ }
+    ensures words { λ _. ⌜ now (words .exit)
+        ≡ leaves (now (words .entry)) (told two (asked width (fieldAt (now (s .entry)) bit width))) ⌝ }
 {
     if 32 < width {
         return i64::MIN;
@@ -68,8 +71,9 @@ fn sum_fields(s: &[u8], width: u32, count: u64) -> Reply
 
 #[no_mangle]
 pub extern "C" fn probe_sum_fields(s: &[u8], width: u32, count: u64, words: &mut [u64]) -> i64
-    ensures { λ r. ⌜ r ≡ answers (told wrapped (asked width (totalAt (now (s .entry)) width count 0))) ⌝ }
-    ensures { λ _. ⌜ now (words .exit) ≡ leaves (now (words .entry)) (told wrapped (asked width (totalAt (now (s .entry)) width count 0))) ⌝ }
+    ensures answer { λ r. ⌜ r ≡ answers (told wrapped (asked width (totalAt (now (s .entry)) width count 0))) ⌝ }
+    ensures words { λ _. ⌜ now (words .exit)
+        ≡ leaves (now (words .entry)) (told wrapped (asked width (totalAt (now (s .entry)) width count 0))) ⌝ }
 {
     if 32 < width {
         return i64::MIN;

@@ -3,10 +3,10 @@ use super::reply::of_filled;
 use super::reply::tell;
 use payload::Bounds;
 ghost use mathlib.Core.Path.{_≡_};
-ghost use lib.ListN.{length};
+ghost use mathlib.Core.List.{[], _∷_};
 ghost use lib.IntN.{pos};
 ghost use Rattle.bits.specs.Float.{bitsOf};
-ghost use Rattle.payload.specs.Fill.{answered, front};
+ghost use Rattle.payload.specs.Lent.{inItems, answerFor, buffersAfter, atEntry};
 ghost use Rattle.payload.specs.Float.{ratio};
 ghost use Rattle.payload.specs.Crop.{full};
 ghost use Rattle.payload.specs.Sphere.{sphereNumbers, sphereUvs};
@@ -21,9 +21,12 @@ pub extern "C" fn probe_sphere_indices(
     out: &mut [u16],
     words: &mut [u64],
 ) -> i64
-    ensures { λ r. ⌜ r ≡ answers (told one (answered 1 (sphereNumbers rings sectors full) (length (now (out .entry))))) ⌝ }
-    ensures { λ _. ⌜ now (words .exit) ≡ leaves (now (words .entry)) (told one (answered 1 (sphereNumbers rings sectors full) (length (now (out .entry))))) ⌝ }
-    ensures { λ _. ⌜ now (out .exit) ≡ front (sphereNumbers rings sectors full) (now (out .entry)) ⌝ }
+    ensures answer { λ r. ⌜ r ≡ answers (told one
+        (answerFor (inItems 1 (sphereNumbers rings sectors full)) (atEntry (out ∷ [])))) ⌝ }
+    ensures words { λ _. ⌜ now (words .exit) ≡ leaves (now (words .entry)) (told one
+        (answerFor (inItems 1 (sphereNumbers rings sectors full)) (atEntry (out ∷ [])))) ⌝ }
+    ensures buffers { λ _. ⌜ now (out .exit) ∷ []
+        ≡ buffersAfter (inItems 1 (sphereNumbers rings sectors full)) (atEntry (out ∷ [])) ⌝ }
 {
     tell(
         words,
@@ -42,9 +45,12 @@ pub extern "C" fn probe_sphere_indices_bounded(
     out: &mut [u16],
     words: &mut [u64],
 ) -> i64
-    ensures { λ r. ⌜ r ≡ answers (told one (answered 1 (sphereNumbers rings sectors (sides top bottom left right)) (length (now (out .entry))))) ⌝ }
-    ensures { λ _. ⌜ now (words .exit) ≡ leaves (now (words .entry)) (told one (answered 1 (sphereNumbers rings sectors (sides top bottom left right)) (length (now (out .entry))))) ⌝ }
-    ensures { λ _. ⌜ now (out .exit) ≡ front (sphereNumbers rings sectors (sides top bottom left right)) (now (out .entry)) ⌝ }
+    ensures answer { λ r. ⌜ r ≡ answers (told one
+        (answerFor (inItems 1 (sphereNumbers rings sectors (sides top bottom left right))) (atEntry (out ∷ [])))) ⌝ }
+    ensures words { λ _. ⌜ now (words .exit) ≡ leaves (now (words .entry)) (told one
+        (answerFor (inItems 1 (sphereNumbers rings sectors (sides top bottom left right))) (atEntry (out ∷ [])))) ⌝ }
+    ensures buffers { λ _. ⌜ now (out .exit) ∷ []
+        ≡ buffersAfter (inItems 1 (sphereNumbers rings sectors (sides top bottom left right))) (atEntry (out ∷ [])) ⌝ }
 {
     let crop = Bounds {
         top,
@@ -65,18 +71,24 @@ pub extern "C" fn probe_sphere_uvs(
     out: &mut [u32],
     words: &mut [u64],
 ) -> i64
-    ensures { λ r. ⌜ r ≡ answers (told one (answered 2 (sphereUvs rings sectors) (length (now (out .entry))))) ⌝ }
-    ensures { λ _. ⌜ now (words .exit) ≡ leaves (now (words .entry)) (told one (answered 2 (sphereUvs rings sectors) (length (now (out .entry))))) ⌝ }
-    ensures { λ _. ⌜ now (out .exit) ≡ front (sphereUvs rings sectors) (now (out .entry)) ⌝ }
+    ensures answer { λ r. ⌜ r ≡ answers (told one
+        (answerFor (inItems 2 (sphereUvs rings sectors)) (atEntry (out ∷ [])))) ⌝ }
+    ensures words { λ _. ⌜ now (words .exit) ≡ leaves (now (words .entry)) (told one
+        (answerFor (inItems 2 (sphereUvs rings sectors)) (atEntry (out ∷ [])))) ⌝ }
+    ensures buffers { λ _. ⌜ now (out .exit) ∷ []
+        ≡ buffersAfter (inItems 2 (sphereUvs rings sectors)) (atEntry (out ∷ [])) ⌝ }
 {
     tell(words, of_filled(payload::sphere_uvs(rings, sectors, out)))
 }
 
 #[no_mangle]
 pub extern "C" fn probe_cubemap_indices(cells: u32, out: &mut [u16], words: &mut [u64]) -> i64
-    ensures { λ r. ⌜ r ≡ answers (told one (answered 1 (cubeNumbers cells) (length (now (out .entry))))) ⌝ }
-    ensures { λ _. ⌜ now (words .exit) ≡ leaves (now (words .entry)) (told one (answered 1 (cubeNumbers cells) (length (now (out .entry))))) ⌝ }
-    ensures { λ _. ⌜ now (out .exit) ≡ front (cubeNumbers cells) (now (out .entry)) ⌝ }
+    ensures answer { λ r. ⌜ r ≡ answers (told one
+        (answerFor (inItems 1 (cubeNumbers cells)) (atEntry (out ∷ [])))) ⌝ }
+    ensures words { λ _. ⌜ now (words .exit) ≡ leaves (now (words .entry)) (told one
+        (answerFor (inItems 1 (cubeNumbers cells)) (atEntry (out ∷ [])))) ⌝ }
+    ensures buffers { λ _. ⌜ now (out .exit) ∷ []
+        ≡ buffersAfter (inItems 1 (cubeNumbers cells)) (atEntry (out ∷ [])) ⌝ }
 {
     tell(words, of_filled(payload::cubemap_indices(cells, out)))
 }
@@ -89,9 +101,12 @@ pub extern "C" fn probe_cubemap_mesh(
     out: &mut [u32],
     words: &mut [u64],
 ) -> i64
-    ensures { λ r. ⌜ r ≡ answers (told one (answered 5 (cubeFloats cells radius padding) (length (now (out .entry))))) ⌝ }
-    ensures { λ _. ⌜ now (words .exit) ≡ leaves (now (words .entry)) (told one (answered 5 (cubeFloats cells radius padding) (length (now (out .entry))))) ⌝ }
-    ensures { λ _. ⌜ now (out .exit) ≡ front (cubeFloats cells radius padding) (now (out .entry)) ⌝ }
+    ensures answer { λ r. ⌜ r ≡ answers (told one
+        (answerFor (inItems 5 (cubeFloats cells radius padding)) (atEntry (out ∷ [])))) ⌝ }
+    ensures words { λ _. ⌜ now (words .exit) ≡ leaves (now (words .entry)) (told one
+        (answerFor (inItems 5 (cubeFloats cells radius padding)) (atEntry (out ∷ [])))) ⌝ }
+    ensures buffers { λ _. ⌜ now (out .exit) ∷ []
+        ≡ buffersAfter (inItems 5 (cubeFloats cells radius padding)) (atEntry (out ∷ [])) ⌝ }
 {
     tell(
         words,

@@ -9,14 +9,13 @@ use payload::MeshesAnswer;
 use payload::RecordsAnswer;
 use payload::TableLengths;
 ghost use mathlib.Core.Path.{_≡_};
-ghost use lib.ListN.{length};
-ghost use Rattle.bits.specs.Verdict.{accepted, mapped, andThen};
-ghost use Rattle.payload.specs.Fill.{answered, front};
+ghost use mathlib.Core.List.{[], _∷_};
+ghost use Rattle.bits.specs.Verdict.{accepted, mapped};
+ghost use Rattle.payload.specs.Lent.{inItems, answerFor, buffersAfter, atEntry};
 ghost use Rattle.payload.specs.Payload.{limited};
 ghost use Rattle.payload.specs.MeshRead.{readMeshes};
-ghost use Rattle.payload.specs.MeshDrawing.{drawnNumbers, drawnFloats, drawnRecords};
-ghost use Rattle.payload.specs.Meshes.{listSize, measuredSays, meshesSays, meshesAnswer, drawnInto, recordsSays, recordsAnswer};
-ghost use Rattle.payload.specs.Tables.{poolTable, coordinateTable, submeshTable, pointTable, bodyRead, tablesSays, tablesAnswer, tablesInto};
+ghost use Rattle.payload.specs.Meshes.{listSize, measuredSays, meshesPlan, meshesSays, recordsPlan, recordsSays};
+ghost use Rattle.payload.specs.Tables.{tablesPlan, tablesSays};
 ghost use Rattle.payload.specs.MeshWrite.{meshWritten};
 ghost use Rattle.probe.specs.Answer.{answers, leaves, told, one, says};
 ghost use Rattle.probe.specs.Shown.{sizeWords, countWords, tableWords};
@@ -93,17 +92,22 @@ fn of_tables(x: MeshAnswer) -> Reply
 
 #[no_mangle]
 pub extern "C" fn probe_measure_meshes(payload: &[u8], words: &mut [u64]) -> i64
-    ensures { λ r. ⌜ r ≡ answers (told sizeWords (limited (now (payload .entry)) (mapped listSize (readMeshes (now (payload .entry)))))) ⌝ }
-    ensures { λ _. ⌜ now (words .exit) ≡ leaves (now (words .entry)) (told sizeWords (limited (now (payload .entry)) (mapped listSize (readMeshes (now (payload .entry)))))) ⌝ }
+    ensures answer { λ r. ⌜ r ≡ answers (told sizeWords
+        (limited (now (payload .entry)) (mapped listSize (readMeshes (now (payload .entry)))))) ⌝ }
+    ensures words { λ _. ⌜ now (words .exit) ≡ leaves (now (words .entry))
+        (told sizeWords (limited (now (payload .entry)) (mapped listSize (readMeshes (now (payload .entry)))))) ⌝ }
 {
     tell(words, of_measured(payload::measure_meshes(payload)))
 }
 
 #[no_mangle]
 pub extern "C" fn probe_mesh_records(payload: &[u8], records: &mut [u32], words: &mut [u64]) -> i64
-    ensures { λ r. ⌜ r ≡ answers (told countWords (recordsAnswer (now (payload .entry)) (length (now (records .entry))))) ⌝ }
-    ensures { λ _. ⌜ now (words .exit) ≡ leaves (now (words .entry)) (told countWords (recordsAnswer (now (payload .entry)) (length (now (records .entry))))) ⌝ }
-    ensures { λ _. ⌜ now (records .exit) ≡ front (mapped drawnRecords (limited (now (payload .entry)) (readMeshes (now (payload .entry))))) (now (records .entry)) ⌝ }
+    ensures answer { λ r. ⌜ r ≡ answers (told countWords
+        (answerFor (recordsPlan (now (payload .entry))) (atEntry (records ∷ [])))) ⌝ }
+    ensures words { λ _. ⌜ now (words .exit) ≡ leaves (now (words .entry)) (told countWords
+        (answerFor (recordsPlan (now (payload .entry))) (atEntry (records ∷ [])))) ⌝ }
+    ensures buffers { λ _. ⌜ now (records .exit) ∷ []
+        ≡ buffersAfter (recordsPlan (now (payload .entry))) (atEntry (records ∷ [])) ⌝ }
 {
     tell(words, of_records(payload::mesh_records(payload, records)))
 }
@@ -116,11 +120,12 @@ pub extern "C" fn probe_parse_meshes(
     records: &mut [u32],
     words: &mut [u64],
 ) -> i64
-    ensures { λ r. ⌜ r ≡ answers (told sizeWords (meshesAnswer (now (payload .entry)) (length (now (numbers .entry))) (length (now (floats .entry))) (length (now (records .entry))))) ⌝ }
-    ensures { λ _. ⌜ now (words .exit) ≡ leaves (now (words .entry)) (told sizeWords (meshesAnswer (now (payload .entry)) (length (now (numbers .entry))) (length (now (floats .entry))) (length (now (records .entry))))) ⌝ }
-    ensures { λ _. ⌜ now (numbers .exit) ≡ drawnInto drawnNumbers (limited (now (payload .entry)) (readMeshes (now (payload .entry)))) (length (now (numbers .entry))) (length (now (floats .entry))) (length (now (records .entry))) (now (numbers .entry)) ⌝ }
-    ensures { λ _. ⌜ now (floats .exit) ≡ drawnInto drawnFloats (limited (now (payload .entry)) (readMeshes (now (payload .entry)))) (length (now (numbers .entry))) (length (now (floats .entry))) (length (now (records .entry))) (now (floats .entry)) ⌝ }
-    ensures { λ _. ⌜ now (records .exit) ≡ drawnInto drawnRecords (limited (now (payload .entry)) (readMeshes (now (payload .entry)))) (length (now (numbers .entry))) (length (now (floats .entry))) (length (now (records .entry))) (now (records .entry)) ⌝ }
+    ensures answer { λ r. ⌜ r ≡ answers (told sizeWords
+        (answerFor (meshesPlan (now (payload .entry))) (atEntry (numbers ∷ floats ∷ records ∷ [])))) ⌝ }
+    ensures words { λ _. ⌜ now (words .exit) ≡ leaves (now (words .entry)) (told sizeWords
+        (answerFor (meshesPlan (now (payload .entry))) (atEntry (numbers ∷ floats ∷ records ∷ [])))) ⌝ }
+    ensures buffers { λ _. ⌜ now (numbers .exit) ∷ now (floats .exit) ∷ now (records .exit) ∷ []
+        ≡ buffersAfter (meshesPlan (now (payload .entry))) (atEntry (numbers ∷ floats ∷ records ∷ [])) ⌝ }
 {
     tell(
         words,
@@ -137,12 +142,13 @@ pub extern "C" fn probe_parse_mesh(
     points: &mut [u16],
     words: &mut [u64],
 ) -> i64
-    ensures { λ r. ⌜ r ≡ answers (told tableWords (andThen (bodyRead (now (body .entry))) (λ x. tablesAnswer x (length (now (pool .entry))) (length (now (coordinates .entry))) (length (now (submeshes .entry))) (length (now (points .entry)))))) ⌝ }
-    ensures { λ _. ⌜ now (words .exit) ≡ leaves (now (words .entry)) (told tableWords (andThen (bodyRead (now (body .entry))) (λ x. tablesAnswer x (length (now (pool .entry))) (length (now (coordinates .entry))) (length (now (submeshes .entry))) (length (now (points .entry)))))) ⌝ }
-    ensures { λ _. ⌜ now (pool .exit) ≡ tablesInto poolTable (bodyRead (now (body .entry))) (length (now (pool .entry))) (length (now (coordinates .entry))) (length (now (submeshes .entry))) (length (now (points .entry))) (now (pool .entry)) ⌝ }
-    ensures { λ _. ⌜ now (coordinates .exit) ≡ tablesInto coordinateTable (bodyRead (now (body .entry))) (length (now (pool .entry))) (length (now (coordinates .entry))) (length (now (submeshes .entry))) (length (now (points .entry))) (now (coordinates .entry)) ⌝ }
-    ensures { λ _. ⌜ now (submeshes .exit) ≡ tablesInto submeshTable (bodyRead (now (body .entry))) (length (now (pool .entry))) (length (now (coordinates .entry))) (length (now (submeshes .entry))) (length (now (points .entry))) (now (submeshes .entry)) ⌝ }
-    ensures { λ _. ⌜ now (points .exit) ≡ tablesInto pointTable (bodyRead (now (body .entry))) (length (now (pool .entry))) (length (now (coordinates .entry))) (length (now (submeshes .entry))) (length (now (points .entry))) (now (points .entry)) ⌝ }
+    ensures answer { λ r. ⌜ r ≡ answers (told tableWords
+        (answerFor (tablesPlan (now (body .entry))) (atEntry (pool ∷ coordinates ∷ submeshes ∷ points ∷ [])))) ⌝ }
+    ensures words { λ _. ⌜ now (words .exit) ≡ leaves (now (words .entry)) (told tableWords
+        (answerFor (tablesPlan (now (body .entry))) (atEntry (pool ∷ coordinates ∷ submeshes ∷ points ∷ [])))) ⌝ }
+    ensures buffers { λ _. ⌜ now (pool .exit) ∷ now (coordinates .exit) ∷ now (submeshes .exit) ∷ now (points .exit)
+        ∷ []
+        ≡ buffersAfter (tablesPlan (now (body .entry))) (atEntry (pool ∷ coordinates ∷ submeshes ∷ points ∷ [])) ⌝ }
 {
     tell(
         words,
@@ -159,9 +165,15 @@ pub extern "C" fn probe_write_mesh(
     out: &mut [u8],
     words: &mut [u64],
 ) -> i64
-    ensures { λ r. ⌜ r ≡ answers (told one (answered 1 (meshWritten (now (pool .entry)) (now (coordinates .entry)) (now (submeshes .entry)) (now (points .entry))) (length (now (out .entry))))) ⌝ }
-    ensures { λ _. ⌜ now (words .exit) ≡ leaves (now (words .entry)) (told one (answered 1 (meshWritten (now (pool .entry)) (now (coordinates .entry)) (now (submeshes .entry)) (now (points .entry))) (length (now (out .entry))))) ⌝ }
-    ensures { λ _. ⌜ now (out .exit) ≡ front (meshWritten (now (pool .entry)) (now (coordinates .entry)) (now (submeshes .entry)) (now (points .entry))) (now (out .entry)) ⌝ }
+    ensures answer { λ r. ⌜ r ≡ answers (told one
+        (answerFor (inItems 1 (meshWritten (now (pool .entry)) (now (coordinates .entry))
+        (now (submeshes .entry)) (now (points .entry)))) (atEntry (out ∷ [])))) ⌝ }
+    ensures words { λ _. ⌜ now (words .exit) ≡ leaves (now (words .entry)) (told one
+        (answerFor (inItems 1 (meshWritten (now (pool .entry)) (now (coordinates .entry))
+        (now (submeshes .entry)) (now (points .entry)))) (atEntry (out ∷ [])))) ⌝ }
+    ensures buffers { λ _. ⌜ now (out .exit) ∷ []
+        ≡ buffersAfter (inItems 1 (meshWritten (now (pool .entry)) (now (coordinates .entry))
+        (now (submeshes .entry)) (now (points .entry)))) (atEntry (out ∷ [])) ⌝ }
 {
     tell(
         words,

@@ -18,8 +18,8 @@ pub extern "C" fn probe_zigzag(n: u32) -> i64
 
 #[no_mangle]
 pub extern "C" fn probe_stepped(last: u32, field: u32, words: &mut [u64]) -> i64
-    ensures { λ r. ⌜ r ≡ answers (accepted (one (steppedTo last field))) ⌝ }
-    ensures { λ _. ⌜ now (words .exit) ≡ leaves (now (words .entry)) (accepted (one (steppedTo last field))) ⌝ }
+    ensures answer { λ r. ⌜ r ≡ answers (accepted (one (steppedTo last field))) ⌝ }
+    ensures words { λ _. ⌜ now (words .exit) ≡ leaves (now (words .entry)) (accepted (one (steppedTo last field))) ⌝ }
 {
     tell(words, Reply::One(bits::stepped(last, field)))
 }

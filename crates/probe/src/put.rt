@@ -7,8 +7,9 @@ ghost use Rattle.probe.specs.Answer.{answers, leaves, told, none, asked,
 
 #[no_mangle]
 pub extern "C" fn probe_put_word(out: &mut [u8], at: usize, x: u32, words: &mut [u64]) -> i64
-    ensures { λ r. ⌜ r ≡ answers (told none (wordPutAnswer (now (out .entry)) at)) ⌝ }
-    ensures { λ _. ⌜ now (words .exit) ≡ leaves (now (words .entry)) (told none (wordPutAnswer (now (out .entry)) at)) ⌝ }
+    ensures answer { λ r. ⌜ r ≡ answers (told none (wordPutAnswer (now (out .entry)) at)) ⌝ }
+    ensures words { λ _. ⌜ now (words .exit)
+        ≡ leaves (now (words .entry)) (told none (wordPutAnswer (now (out .entry)) at)) ⌝ }
     ensures { λ _. ⌜ now (out .exit) ≡ wordPut (now (out .entry)) at x ⌝ }
 {
     tell(words, of_put(bits::put_word(out, at, x)))
@@ -22,8 +23,9 @@ pub extern "C" fn probe_put_field(
     value: u32,
     words: &mut [u64],
 ) -> i64
-    ensures { λ r. ⌜ r ≡ answers (told none (asked width (fieldPutAnswer (now (out .entry)) bit width))) ⌝ }
-    ensures { λ _. ⌜ now (words .exit) ≡ leaves (now (words .entry)) (told none (asked width (fieldPutAnswer (now (out .entry)) bit width))) ⌝ }
+    ensures answer { λ r. ⌜ r ≡ answers (told none (asked width (fieldPutAnswer (now (out .entry)) bit width))) ⌝ }
+    ensures words { λ _. ⌜ now (words .exit)
+        ≡ leaves (now (words .entry)) (told none (asked width (fieldPutAnswer (now (out .entry)) bit width))) ⌝ }
     ensures { λ _. ⌜ now (out .exit) ≡ narrow width (fieldPut (now (out .entry)) bit width value) (now (out .entry)) ⌝ }
 {
     if 32 < width {

@@ -47,8 +47,8 @@ fn store(words: &mut [u64], given: &[u64])
 
 // Answers a reply, and stores its words where they fit.
 pub fn tell(words: &mut [u64], reply: Reply) -> i64
-    ensures { λ r. ⌜ r ≡ answers (says reply) ⌝ }
-    ensures { λ _. ⌜ now (words .exit) ≡ leaves (now (words .entry)) (says reply) ⌝ }
+    ensures answer { λ r. ⌜ r ≡ answers (says reply) ⌝ }
+    ensures words { λ _. ⌜ now (words .exit) ≡ leaves (now (words .entry)) (says reply) ⌝ }
 {
     match reply {
         Reply::Nothing => 0,

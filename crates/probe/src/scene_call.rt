@@ -4,8 +4,8 @@ use super::reply::tell;
 use super::reply::word;
 use scene::SceneAnswer;
 ghost use mathlib.Core.Path.{_≡_};
-ghost use lib.ListN.{length};
-ghost use Rattle.scene.specs.Scene.{given, sceneAnswer, sceneSays, scenePart, numbersOf, floatsOf, recordsOf};
+ghost use mathlib.Core.List.{[], _∷_};
+ghost use Rattle.scene.specs.Scene.{call, sceneAnswer, sceneLeaves, sceneSays};
 ghost use Rattle.probe.specs.Answer.{answers, leaves, told, says};
 ghost use Rattle.probe.specs.Scene.{sceneWords};
 
@@ -66,11 +66,12 @@ pub extern "C" fn probe_scene(
     records: &mut [u32],
     words: &mut [u64],
 ) -> i64
-    ensures { λ r. ⌜ r ≡ answers (told sceneWords (sceneAnswer kind (given rings sectors cells radius «face_width») (now (payload .entry)) (length (now (numbers .entry))) (length (now (floats .entry))) (length (now (records .entry))))) ⌝ }
-    ensures { λ _. ⌜ now (words .exit) ≡ leaves (now (words .entry)) (told sceneWords (sceneAnswer kind (given rings sectors cells radius «face_width») (now (payload .entry)) (length (now (numbers .entry))) (length (now (floats .entry))) (length (now (records .entry))))) ⌝ }
-    ensures { λ _. ⌜ now (numbers .exit) ≡ scenePart numbersOf kind (given rings sectors cells radius «face_width») (now (payload .entry)) (length (now (numbers .entry))) (length (now (floats .entry))) (length (now (records .entry))) (now (numbers .entry)) ⌝ }
-    ensures { λ _. ⌜ now (floats .exit) ≡ scenePart floatsOf kind (given rings sectors cells radius «face_width») (now (payload .entry)) (length (now (numbers .entry))) (length (now (floats .entry))) (length (now (records .entry))) (now (floats .entry)) ⌝ }
-    ensures { λ _. ⌜ now (records .exit) ≡ scenePart recordsOf kind (given rings sectors cells radius «face_width») (now (payload .entry)) (length (now (numbers .entry))) (length (now (floats .entry))) (length (now (records .entry))) (now (records .entry)) ⌝ }
+    ensures answer { λ r. ⌜ r ≡ answers (told sceneWords
+        (sceneAnswer (call kind payload rings sectors cells radius «face_width» numbers floats records))) ⌝ }
+    ensures words { λ _. ⌜ now (words .exit) ≡ leaves (now (words .entry)) (told sceneWords
+        (sceneAnswer (call kind payload rings sectors cells radius «face_width» numbers floats records))) ⌝ }
+    ensures buffers { λ _. ⌜ now (numbers .exit) ∷ now (floats .exit) ∷ now (records .exit) ∷ []
+        ≡ sceneLeaves (call kind payload rings sectors cells radius «face_width» numbers floats records) ⌝ }
 {
     tell(
         words,

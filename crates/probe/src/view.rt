@@ -13,7 +13,8 @@ ghost use mathlib.Core.List.{map};
 ghost use lib.IntN.{pos};
 ghost use Rattle.bits.specs.Verdict.{accepted};
 ghost use Rattle.bits.specs.Float.{bitsOf};
-ghost use Rattle.payload.specs.View.{layoutOf, pairOf, projectionOf, windowed, panoramic, patchOf, windowOf, mixOf, fovForZoom, zoomForFov};
+ghost use Rattle.payload.specs.View.{layoutOf, pairOf, projectionOf, windowed, panoramic, patchOf};
+ghost use Rattle.payload.specs.View.{windowOf, mixOf, fovForZoom, zoomForFov};
 ghost use Rattle.probe.specs.Answer.{answers, leaves, says, truth};
 ghost use Rattle.probe.specs.Shown.{layoutNumber, pairNumber, projectionNumber, eyeOf, patchWords};
 
@@ -78,8 +79,9 @@ fn of_patch(x: Patch) -> Reply
 
 #[no_mangle]
 pub extern "C" fn probe_projection_bounds(projection: u32, words: &mut [u64]) -> i64
-    ensures { λ r. ⌜ r ≡ answers (accepted (patchWords (patchOf (projectionOf projection)))) ⌝ }
-    ensures { λ _. ⌜ now (words .exit) ≡ leaves (now (words .entry)) (accepted (patchWords (patchOf (projectionOf projection)))) ⌝ }
+    ensures answer { λ r. ⌜ r ≡ answers (accepted (patchWords (patchOf (projectionOf projection)))) ⌝ }
+    ensures words { λ _. ⌜ now (words .exit)
+        ≡ leaves (now (words .entry)) (accepted (patchWords (patchOf (projectionOf projection)))) ⌝ }
 {
     tell(words, of_patch(Projection::from_raw(projection).bounds()))
 }
@@ -95,8 +97,9 @@ fn eye_of(v: u32) -> Eye
 
 #[no_mangle]
 pub extern "C" fn probe_uv_window(layout: u32, eye: u32, words: &mut [u64]) -> i64
-    ensures { λ r. ⌜ r ≡ answers (accepted (map bitsOf (windowOf (layoutOf layout) (eyeOf eye)))) ⌝ }
-    ensures { λ _. ⌜ now (words .exit) ≡ leaves (now (words .entry)) (accepted (map bitsOf (windowOf (layoutOf layout) (eyeOf eye)))) ⌝ }
+    ensures answer { λ r. ⌜ r ≡ answers (accepted (map bitsOf (windowOf (layoutOf layout) (eyeOf eye)))) ⌝ }
+    ensures words { λ _. ⌜ now (words .exit)
+        ≡ leaves (now (words .entry)) (accepted (map bitsOf (windowOf (layoutOf layout) (eyeOf eye)))) ⌝ }
 {
     let w = payload::uv_window(StereoLayout::from_raw(layout), eye_of(eye));
     tell(
@@ -107,8 +110,9 @@ pub extern "C" fn probe_uv_window(layout: u32, eye: u32, words: &mut [u64]) -> i
 
 #[no_mangle]
 pub extern "C" fn probe_anaglyph_mix(pair: u32, eye: u32, words: &mut [u64]) -> i64
-    ensures { λ r. ⌜ r ≡ answers (accepted (map bitsOf (mixOf (pairOf pair) (eyeOf eye)))) ⌝ }
-    ensures { λ _. ⌜ now (words .exit) ≡ leaves (now (words .entry)) (accepted (map bitsOf (mixOf (pairOf pair) (eyeOf eye)))) ⌝ }
+    ensures answer { λ r. ⌜ r ≡ answers (accepted (map bitsOf (mixOf (pairOf pair) (eyeOf eye)))) ⌝ }
+    ensures words { λ _. ⌜ now (words .exit)
+        ≡ leaves (now (words .entry)) (accepted (map bitsOf (mixOf (pairOf pair) (eyeOf eye)))) ⌝ }
 {
     let m = payload::anaglyph_mix(AnaglyphPair::from_raw(pair), eye_of(eye));
     tell(words, Reply::Three(word(m[0]), word(m[1]), word(m[2])))

@@ -1,5 +1,6 @@
-// The calls, by what they are lent. lend_.. makes buffers of the lengths that are asked for, answer_.. makes the words, has the call made and sums up
-// what was lent, and call_.. chooses the call. Before a call every lent item holds bytes a5.
+// The calls, by what they are lent. lend_.. makes buffers of the lengths that are asked for, answer_.. makes the
+// words, has the call made and sums up what was lent, and call_.. chooses the call. Before a call every lent item
+// holds bytes a5.
 ghost use Prim.Native.Nat.{_≤_};
 
 mod arguments;

@@ -1,5 +1,6 @@
-// Replays stored answers: makes each call of the list on standard input again, on lent items that hold bytes a5, and counts for each call how many
-// of the answers are the stored ones. A line of the list is CALL COUNT ARG.. xDATA CODE SUM NAME, or a comment that begins with #.
+// Replays stored answers: makes each call of the list on standard input again, on lent items that hold bytes a5, and
+// counts for each call how many of the answers are the stored ones. A line of the list is CALL COUNT ARG.. xDATA CODE
+// SUM NAME, or a comment that begins with #.
 mod calls;
 mod line;
 mod print;

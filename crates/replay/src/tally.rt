@@ -11,7 +11,8 @@ ghost use lib.ListN.{getD, set};
 // One more of a call. A list has fewer than 2^64 lines.
 fn count(counts: &mut [u64; 52], call: usize)
     requires { ⌜ call < 52 ⌝ }
-    ensures { λ _. ⌜ now (counts .exit) ≡ set (now (counts .entry)) call ((getD (now (counts .entry)) call 0 + 1) % 2 ^ 64) ⌝ }
+    ensures { λ _. ⌜ now (counts .exit)
+        ≡ set (now (counts .entry)) call ((getD (now (counts .entry)) call 0 + 1) % 2 ^ 64) ⌝ }
 {
     counts[call] = std::num::wrapping_add_u64(counts[call], 1);
 }

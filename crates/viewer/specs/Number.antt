@@ -6,7 +6,8 @@ use lib.IntN.{ℤ, pos, negsuc, negℤ}
 use Rattle.bits.specs.Verdict.{Verdict, accepted, needs, declined}
 use Rattle.payload.specs.declared.mesh.measure.MeshListSize.{MeshListSize}
 
--- a length below 2^63, -14 from there on, -k for refusal k; 12 would be -12, but none of the viewer's calls is lent a buffer
+-- a length below 2^63, -14 from there on, -k for refusal k; 12 would be -12, but none of the viewer's calls is lent a
+-- buffer
 unfoldable pub number : Verdict ℕ → ℤ
 number (accepted n) = cond (leb n (2 ^ 63 - 1)) (pos n) (negsuc 13)
 number (needs l) = negsuc 11

@@ -1,4 +1,5 @@
-// What the Rust viewer links: a mesh list measured, and the four counts. Each answers one number: a length, or the number of a refusal, negative.
+// What the Rust viewer links: a mesh list measured, and the four counts. Each answers one number: a length, or the
+// number of a refusal, negative.
 use payload::Counted;
 use payload::Measured;
 ghost use mathlib.Core.Path.{_≡_};
@@ -65,7 +66,8 @@ pub extern "C" fn hoodsorrel_cubemap_index_count(cells: u32) -> i64
 
 #[no_mangle]
 pub extern "C" fn hoodsorrel_measure_meshes(payload: &[u8]) -> i64
-    ensures { λ r. ⌜ r ≡ number (limited (now (payload .entry)) (mapped pointTotal (readMeshes (now (payload .entry))))) ⌝ }
+    ensures { λ r. ⌜ r
+        ≡ number (limited (now (payload .entry)) (mapped pointTotal (readMeshes (now (payload .entry))))) ⌝ }
 {
     of_measured(payload::measure_meshes(payload))
 }

@@ -20,15 +20,14 @@ ghost use mathlib.Core.List.{[], _∷_};
 ghost use Prim.Native.Nat.{_+_, _*_, _≤_, _<_};
 ghost use lib.ListN.{length, getD};
 ghost use lib.Seq.{sets};
-ghost use Rattle.bits.specs.Verdict.{needs, mapped};
 ghost use Rattle.bits.specs.Number.{widthOf};
-ghost use Rattle.payload.specs.Payload.{limited};
 ghost use Rattle.bits.specs.Run.{lastOf};
 ghost use Rattle.payload.specs.MeshRead.{many, readSubmesh, readMesh, readMeshes};
 ghost use Rattle.payload.specs.MeshDrawing.{pointWords, runWords, submeshWords, submeshRecords, pointCount, recordsFrom, drawnNumbers, drawnFloats, drawnRecords};
-ghost use Rattle.payload.specs.Internal.{WasRead, RunPlace, pointsOf, PointsPooled, PointsExpanded, PointsBelow, SomeOf, SomeRun, someNumbers, poolWord, wordAt, wordIn, wordsFrom, Pooled, ExpandedFrom, submeshesRead, meshRead, boxMeshes, boxRead, meshesFrom, FillRoom, afterMeshes, recordWords, RecordRoom, afterRecords};
-ghost use Rattle.payload.specs.Fill.{front};
-ghost use Rattle.payload.specs.Meshes.{drawnInto, meshesSays, meshesAnswer, recordsSays, recordsAnswer};
+ghost use Rattle.payload.specs.Internal.{WasRead, RunPlace, pointsOf, PointsPooled, PointsExpanded, PointsBelow, SomeOf, SomeRun, someNumbers};
+ghost use Rattle.payload.specs.Internal.{poolWord, wordAt, wordIn, wordsFrom, Pooled, ExpandedFrom, submeshesRead, meshRead, boxMeshes, boxRead, meshesFrom, FillRoom, afterMeshes, recordWords, RecordRoom, afterRecords};
+ghost use Rattle.payload.specs.Lent.{answerFor, buffersAfter, atEntry};
+ghost use Rattle.payload.specs.Meshes.{meshesPlan, meshesSays, recordsPlan, recordsSays};
 
 // The pool word of a coordinate number.
 fn pool_word(s: &[u8], c: CoordinateNumber) -> u32
@@ -565,43 +564,35 @@ pub enum MeshesAnswer {
     Declined(u8),
 }
 
-fn too_short(n: MeshListSize) -> MeshesAnswer
-    ensures { λ r. ⌜ meshesSays r ≡ needs (n .numbers ∷ n .floats ∷ n .records ∷ []) ⌝ }
-{
-    MeshesAnswer::Needs {
-        numbers: n.numbers,
-        floats: n.floats,
-        records: n.records,
-    }
-}
-
-// Draws a mesh list: 2, then 3, 6, 7 and 8 in payload order, then 12. Unless it answers `Drawn`, the buffers stay as they were.
+// Draws a mesh list: 2, then 3, 6, 7 and 8 in payload order, then 12. Unless it answers `Drawn`, the buffers stay as
+// they were.
 pub fn parse_meshes(
     payload: &[u8],
     numbers: &mut [u16],
     floats: &mut [u32],
     records: &mut [u32],
 ) -> MeshesAnswer
-    ensures { λ r. ⌜ meshesSays r ≡ meshesAnswer (now (payload .entry)) (length (now (numbers .entry))) (length (now (floats .entry))) (length (now (records .entry))) ⌝ }
-    ensures { λ _. ⌜ now (numbers .exit) ≡ drawnInto drawnNumbers (limited (now (payload .entry)) (readMeshes (now (payload .entry)))) (length (now (numbers .entry))) (length (now (floats .entry))) (length (now (records .entry))) (now (numbers .entry)) ⌝ }
-    ensures { λ _. ⌜ now (floats .exit) ≡ drawnInto drawnFloats (limited (now (payload .entry)) (readMeshes (now (payload .entry)))) (length (now (numbers .entry))) (length (now (floats .entry))) (length (now (records .entry))) (now (floats .entry)) ⌝ }
-    ensures { λ _. ⌜ now (records .exit) ≡ drawnInto drawnRecords (limited (now (payload .entry)) (readMeshes (now (payload .entry)))) (length (now (numbers .entry))) (length (now (floats .entry))) (length (now (records .entry))) (now (records .entry)) ⌝ }
+    ensures answer { λ r. ⌜ meshesSays r
+        ≡ answerFor (meshesPlan (now (payload .entry))) (atEntry (numbers ∷ floats ∷ records ∷ [])) ⌝ }
+    ensures buffers { λ _. ⌜ now (numbers .exit) ∷ now (floats .exit) ∷ now (records .exit) ∷ []
+        ≡ buffersAfter (meshesPlan (now (payload .entry))) (atEntry (numbers ∷ floats ∷ records ∷ [])) ⌝ }
 {
     match measure_meshes(payload) {
         Measured::Declined(k) => MeshesAnswer::Declined(k),
         Measured::Size(n) => {
-            if numbers.len() < n.numbers {
-                return too_short(n);
+            if (n.numbers <= numbers.len())
+                & (n.floats <= floats.len())
+                & (n.records <= records.len())
+            {
+                draw_boxes(payload, numbers, floats);
+                record_boxes(payload, records);
+                return MeshesAnswer::Drawn(n);
             }
-            if floats.len() < n.floats {
-                return too_short(n);
+            MeshesAnswer::Needs {
+                numbers: n.numbers,
+                floats: n.floats,
+                records: n.records,
             }
-            if records.len() < n.records {
-                return too_short(n);
-            }
-            draw_boxes(payload, numbers, floats);
-            record_boxes(payload, records);
-            MeshesAnswer::Drawn(n)
         }
     }
 }
@@ -617,10 +608,13 @@ pub enum RecordsAnswer {
     Declined(u8),
 }
 
-// The records of a mesh list, without its points: 2, then 3, 6, 7 and 8 in payload order, then 12. Unless it answers `Counts`, the buffer stays as it was.
+// The records of a mesh list, without its points: 2, then 3, 6, 7 and 8 in payload order, then 12. Unless it answers
+// `Counts`, the buffer stays as it was.
 pub fn mesh_records(payload: &[u8], records: &mut [u32]) -> RecordsAnswer
-    ensures { λ r. ⌜ recordsSays r ≡ recordsAnswer (now (payload .entry)) (length (now (records .entry))) ⌝ }
-    ensures { λ _. ⌜ now (records .exit) ≡ front (mapped drawnRecords (limited (now (payload .entry)) (readMeshes (now (payload .entry))))) (now (records .entry)) ⌝ }
+    ensures answer { λ r. ⌜ recordsSays r
+        ≡ answerFor (recordsPlan (now (payload .entry))) (atEntry (records ∷ [])) ⌝ }
+    ensures buffers { λ _. ⌜ now (records .exit) ∷ []
+        ≡ buffersAfter (recordsPlan (now (payload .entry))) (atEntry (records ∷ [])) ⌝ }
 {
     match measure_meshes(payload) {
         Measured::Declined(k) => RecordsAnswer::Declined(k),

@@ -93,7 +93,8 @@ fn lengths_fit(k: usize, q: usize) -> bool
 
 // Judges four tables.
 pub fn judge(pool: &[u32], coordinates: &[u16], rows: &[u32], points: &[u16]) -> Judged
-    ensures { λ r. ⌜ judgedSays r ≡ mapped length (meshWritten (now (pool .entry)) (now (coordinates .entry)) (now (rows .entry)) (now (points .entry))) ⌝ }
+    ensures { λ r. ⌜ judgedSays r ≡ mapped length
+        (meshWritten (now (pool .entry)) (now (coordinates .entry)) (now (rows .entry)) (now (points .entry))) ⌝ }
 {
     let n = pool.len();
     let v = coordinates.len();

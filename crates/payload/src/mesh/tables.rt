@@ -13,11 +13,11 @@ ghost use mathlib.Core.List.{[], _∷_};
 ghost use Prim.Native.Nat.{_+_, _*_, _≤_};
 ghost use lib.ListN.{length};
 ghost use lib.Seq.{sets};
-ghost use Rattle.bits.specs.Verdict.{andThen};
 ghost use Rattle.bits.specs.Number.{widthOf};
 ghost use Rattle.payload.specs.MeshRead.{many, readSubmesh, readWords, readMesh};
 ghost use Rattle.payload.specs.Internal.{WasRead, RunPlace, pointsOf, submeshesRead, meshRead};
-ghost use Rattle.payload.specs.Tables.{submeshRows, allPoints, poolTable, coordinateTable, submeshTable, pointTable, bodyRead, tablesSays, tablesAnswer, tablesInto};
+ghost use Rattle.payload.specs.Tables.{submeshRows, allPoints, poolTable, coordinateTable, submeshTable, pointTable, tablesPlan, tablesSays};
+ghost use Rattle.payload.specs.Lent.{answerFor, buffersAfter, atEntry};
 
 // Stores the n pool words.
 fn fill_pool(s: &[u8], n: u32, out: &mut [u32])
@@ -127,14 +127,16 @@ fn fill_tables(
     fill_points(s, h.first, h.vertices, h.submeshes, points);
 }
 
-// What reading a mesh body answers: the used lengths of the four tables, or the lengths that they need, or the number of a refusal.
+// What reading a mesh body answers: the used lengths of the four tables, or the lengths that they need, or the number
+// of a refusal.
 pub enum MeshAnswer {
     Tables(TableLengths),
     Needs(TableLengths),
     Declined(u8),
 }
 
-// Reads a mesh body into tables: 2, then 3, 7 and 8 in field order, then 12. Unless it answers `Tables`, the buffers stay as they were.
+// Reads a mesh body into tables: 2, then 3, 7 and 8 in field order, then 12. Unless it answers `Tables`, the buffers
+// stay as they were.
 pub fn parse_mesh(
     body: &[u8],
     pool: &mut [u32],
@@ -142,29 +144,24 @@ pub fn parse_mesh(
     submeshes: &mut [u32],
     points: &mut [u16],
 ) -> MeshAnswer
-    ensures { λ r. ⌜ tablesSays r ≡ andThen (bodyRead (now (body .entry))) (λ x. tablesAnswer x (length (now (pool .entry))) (length (now (coordinates .entry))) (length (now (submeshes .entry))) (length (now (points .entry)))) ⌝ }
-    ensures { λ _. ⌜ now (pool .exit) ≡ tablesInto poolTable (bodyRead (now (body .entry))) (length (now (pool .entry))) (length (now (coordinates .entry))) (length (now (submeshes .entry))) (length (now (points .entry))) (now (pool .entry)) ⌝ }
-    ensures { λ _. ⌜ now (coordinates .exit) ≡ tablesInto coordinateTable (bodyRead (now (body .entry))) (length (now (pool .entry))) (length (now (coordinates .entry))) (length (now (submeshes .entry))) (length (now (points .entry))) (now (coordinates .entry)) ⌝ }
-    ensures { λ _. ⌜ now (submeshes .exit) ≡ tablesInto submeshTable (bodyRead (now (body .entry))) (length (now (pool .entry))) (length (now (coordinates .entry))) (length (now (submeshes .entry))) (length (now (points .entry))) (now (submeshes .entry)) ⌝ }
-    ensures { λ _. ⌜ now (points .exit) ≡ tablesInto pointTable (bodyRead (now (body .entry))) (length (now (pool .entry))) (length (now (coordinates .entry))) (length (now (submeshes .entry))) (length (now (points .entry))) (now (points .entry)) ⌝ }
+    ensures answer { λ r. ⌜ tablesSays r
+        ≡ answerFor (tablesPlan (now (body .entry))) (atEntry (pool ∷ coordinates ∷ submeshes ∷ points ∷ [])) ⌝ }
+    ensures buffers { λ _. ⌜ now (pool .exit) ∷ now (coordinates .exit) ∷ now (submeshes .exit) ∷ now (points .exit)
+        ∷ []
+        ≡ buffersAfter (tablesPlan (now (body .entry))) (atEntry (pool ∷ coordinates ∷ submeshes ∷ points ∷ [])) ⌝ }
 {
     match measure_mesh(body) {
         MeshMeasured::Declined(k) => MeshAnswer::Declined(k),
         MeshMeasured::Lengths(n) => {
-            if pool.len() < n.pool {
-                return MeshAnswer::Needs(n);
+            if (n.pool <= pool.len())
+                & (n.coordinates <= coordinates.len())
+                & (n.submeshes <= submeshes.len())
+                & (n.points <= points.len())
+            {
+                fill_tables(body, pool, coordinates, submeshes, points);
+                return MeshAnswer::Tables(n);
             }
-            if coordinates.len() < n.coordinates {
-                return MeshAnswer::Needs(n);
-            }
-            if submeshes.len() < n.submeshes {
-                return MeshAnswer::Needs(n);
-            }
-            if points.len() < n.points {
-                return MeshAnswer::Needs(n);
-            }
-            fill_tables(body, pool, coordinates, submeshes, points);
-            MeshAnswer::Tables(n)
+            MeshAnswer::Needs(n)
         }
     }
 }

@@ -12,11 +12,15 @@ ghost use lib.ListN.{length, getD};
 ghost use lib.Seq.{sets};
 ghost use Rattle.bits.specs.Put.{bytesOf};
 ghost use Rattle.bits.specs.Run.{zeros};
-ghost use Rattle.payload.specs.Fill.{filledSays, answered, front};
-ghost use Rattle.payload.specs.MeshWrite.{stepField, wordFields, runFields, submeshFields, submeshesFields, vertexFields, boxSize, meshBox, submeshesOf, tablesMesh, isMesh, meshWritten};
+ghost use Rattle.payload.specs.Fill.{filledSays};
+ghost use Rattle.payload.specs.Lent.{inItems, answerFor, buffersAfter, atEntry};
+ghost use Rattle.payload.specs.MeshWrite.{stepField, wordFields, runFields, submeshFields, submeshesFields};
+ghost use Rattle.payload.specs.MeshWrite.{vertexFields, boxSize, meshBox, submeshesOf, tablesMesh};
+ghost use Rattle.payload.specs.MeshWrite.{isMesh, meshWritten};
 ghost use Rattle.payload.specs.Writing.{Ready, Advances, outcome, restFields, rowsFit};
 
-// The byte where the bits go that wait, and how many they are. They are the low bits of `held`; what stands above them is out already.
+// The byte where the bits go that wait, and how many they are. They are the low bits of `held`; what stands above them
+// is out already.
 struct BitWriter {
     at: usize,
     held: u64,
@@ -82,7 +86,8 @@ fn finish(out: &mut [u8], from: BitWriter)
 }
 
 // The field that takes a running number from last to next: twice the step up, or twice the step down less 1.
-// That is the lesser of twice the step, modulo 2^32, and its complement. It becomes code without a branch: a step's direction is hard to foresee.
+// That is the lesser of twice the step, modulo 2^32, and its complement. It becomes code without a branch: a step's
+// direction is hard to foresee.
 fn step_field(last: u16, next: u16) -> u32
     ensures { λ r. ⌜ r ≡ stepField last next ⌝ }
 {
@@ -123,7 +128,8 @@ fn before(ns: &[u16], stride: usize, i: usize) -> u16
 fn put_run(out: &mut [u8], from: BitWriter, width: usize, stride: usize, ns: &[u16]) -> BitWriter
     requires { ⌜ Ready (now out) from (runFields width (zeros stride) (now ns)) ⌝ }
     requires { ⌜ (width ≤ 32) × (1 ≤ stride) ⌝ }
-    ensures { λ r. ⌜ Advances (now (out .entry)) from (runFields width (zeros stride) (now (ns .entry))) (now (out .exit)) r [] ⌝ }
+    ensures { λ r. ⌜ Advances (now (out .entry)) from (runFields width (zeros stride) (now (ns .entry)))
+        (now (out .exit)) r [] ⌝ }
 {
     let mut to = from;
     let mut i = 0;
@@ -143,9 +149,12 @@ fn put_submesh(
     mode: u32,
     points: &[u16],
 ) -> BitWriter
-    requires { ⌜ Ready (now out) from (submeshFields width (record { texture = texture; mode = mode; points = now points })) ⌝ }
+    requires { ⌜ Ready (now out) from
+        (submeshFields width (record { texture = texture; mode = mode; points = now points })) ⌝ }
     requires { ⌜ width ≤ 32 ⌝ }
-    ensures { λ r. ⌜ Advances (now (out .entry)) from (submeshFields width (record { texture = texture; mode = mode; points = now (points .entry) })) (now (out .exit)) r [] ⌝ }
+    ensures { λ r. ⌜ Advances (now (out .entry)) from
+        (submeshFields width (record { texture = texture; mode = mode; points = now (points .entry) }))
+        (now (out .exit)) r [] ⌝ }
 {
     let count = points.len() as u32;
     let a = put(out, from, 8, texture);
@@ -165,7 +174,8 @@ fn put_submeshes(
     requires { ⌜ Ready (now out) from (submeshesFields width (submeshesOf (now rows) (now points))) ⌝ }
     requires { ⌜ width ≤ 32 ⌝ }
     requires { ⌜ rowsFit (now rows) (length (now points)) ≡ true ⌝ }
-    ensures { λ r. ⌜ Advances (now (out .entry)) from (submeshesFields width (submeshesOf (now (rows .entry)) (now (points .entry)))) (now (out .exit)) r [] ⌝ }
+    ensures { λ r. ⌜ Advances (now (out .entry)) from
+        (submeshesFields width (submeshesOf (now (rows .entry)) (now (points .entry)))) (now (out .exit)) r [] ⌝ }
 {
     let mut to = from;
     let mut i = 0;
@@ -185,7 +195,8 @@ fn put_submeshes(
 fn put_vertices(out: &mut [u8], from: BitWriter, pool: &[u32], coordinates: &[u16]) -> BitWriter
     requires { ⌜ Ready (now out) from (vertexFields (tablesMesh (now pool) (now coordinates) [] [])) ⌝ }
     requires { ⌜ length (now pool) ≤ 10000 ⌝ }
-    ensures { λ r. ⌜ Advances (now (out .entry)) from (vertexFields (tablesMesh (now (pool .entry)) (now (coordinates .entry)) [] [])) (now (out .exit)) r [] ⌝ }
+    ensures { λ r. ⌜ Advances (now (out .entry)) from
+        (vertexFields (tablesMesh (now (pool .entry)) (now (coordinates .entry)) [] [])) (now (out .exit)) r [] ⌝ }
 {
     let n = pool.len();
     let width = bits::bit_width(n as u32) as usize;
@@ -200,7 +211,8 @@ fn put_rest(out: &mut [u8], from: BitWriter, m: usize, rows: &[u32], points: &[u
     requires { ⌜ Ready (now out) from (restFields (from .bits) m (submeshesOf (now rows) (now points))) ⌝ }
     requires { ⌜ m ≤ 32000 ⌝ }
     requires { ⌜ rowsFit (now rows) (length (now points)) ≡ true ⌝ }
-    ensures { λ r. ⌜ Advances (now (out .entry)) from (restFields (from .bits) m (submeshesOf (now (rows .entry)) (now (points .entry)))) (now (out .exit)) r [] ⌝ }
+    ensures { λ r. ⌜ Advances (now (out .entry)) from
+        (restFields (from .bits) m (submeshesOf (now (rows .entry)) (now (points .entry)))) (now (out .exit)) r [] ⌝ }
 {
     let bits = from.bits;
     let width = bits::bit_width(m as u32) as usize;
@@ -221,7 +233,8 @@ fn put_box(
     requires { ⌜ isMesh (now pool) (now coordinates) (now rows) (now points) ≡ true ⌝ }
     requires { ⌜ size ≡ boxSize (tablesMesh (now pool) (now coordinates) (now rows) (now points)) ⌝ }
     requires { ⌜ size ≤ length (now out) ⌝ }
-    ensures { λ _. ⌜ now (out .exit) ≡ sets (now (out .entry)) 0 (meshBox (tablesMesh (now (pool .entry)) (now (coordinates .entry)) (now (rows .entry)) (now (points .entry)))) ⌝ }
+    ensures { λ _. ⌜ now (out .exit) ≡ sets (now (out .entry)) 0 (meshBox (tablesMesh (now (pool .entry))
+        (now (coordinates .entry)) (now (rows .entry)) (now (points .entry)))) ⌝ }
 {
     let start = BitWriter {
         at: 0,
@@ -243,8 +256,10 @@ pub fn write_mesh(
     points: &[u16],
     out: &mut [u8],
 ) -> Filled
-    ensures { λ r. ⌜ filledSays r ≡ answered 1 (meshWritten (now (pool .entry)) (now (coordinates .entry)) (now (submeshes .entry)) (now (points .entry))) (length (now (out .entry))) ⌝ }
-    ensures { λ _. ⌜ now (out .exit) ≡ front (meshWritten (now (pool .entry)) (now (coordinates .entry)) (now (submeshes .entry)) (now (points .entry))) (now (out .entry)) ⌝ }
+    ensures answer { λ r. ⌜ filledSays r ≡ answerFor (inItems 1 (meshWritten (now (pool .entry))
+        (now (coordinates .entry)) (now (submeshes .entry)) (now (points .entry)))) (atEntry (out ∷ [])) ⌝ }
+    ensures buffers { λ _. ⌜ now (out .exit) ∷ [] ≡ buffersAfter (inItems 1 (meshWritten (now (pool .entry))
+        (now (coordinates .entry)) (now (submeshes .entry)) (now (points .entry)))) (atEntry (out ∷ [])) ⌝ }
 {
     match judge(pool, coordinates, submeshes, points) {
         Judged::NoMesh => Filled::Declined(13),

@@ -73,7 +73,8 @@ fn lend_tables(
     point_length: usize,
     out_length: usize,
 ) -> Outcome
-    requires { ⌜ («pool_length» ≤ 512) × («coordinate_length» ≤ 2048) × («submesh_length» ≤ 512) × («point_length» ≤ 2048) × («out_length» ≤ 1024) ⌝ }
+    requires { ⌜ («pool_length» ≤ 512) × («coordinate_length» ≤ 2048) × («submesh_length» ≤ 512)
+        × («point_length» ≤ 2048) × («out_length» ≤ 1024) ⌝ }
 {
     let mut pool = [0xa5a5_a5a5u32; 512];
     let mut coordinates = [0xa5a5u16; 2048];
@@ -106,7 +107,8 @@ fn answer_tables(
     }
 }
 
-// Calls 23 and 24, whose arguments are lengths. Call 23 has no fifth one, which is 0 then. The data of call 24 is the four tables.
+// Calls 23 and 24, whose arguments are lengths. Call 23 has no fifth one, which is 0 then. The data of call 24 is the
+// four tables.
 pub fn mesh_body(call: usize, args: &[u64; 10], data: &[u8]) -> Outcome {
     let pool = args[0] as usize;
     let coordinates = args[1] as usize;

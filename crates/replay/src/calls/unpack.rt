@@ -2,7 +2,8 @@
 use bits::BitCursor;
 use bits::FieldRead;
 
-// Fills out from a place of the data on, and answers the place after it. Where the data ends before, the rest of out is as it was.
+// Fills out from a place of the data on, and answers the place after it. Where the data ends before, the rest of out
+// is as it was.
 pub fn unpack_u32s(data: &[u8], from: BitCursor, out: &mut [u32]) -> BitCursor {
     let mut bit = from.bit;
     let mut i: usize = 0;

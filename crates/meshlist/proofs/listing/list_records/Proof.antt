@@ -1,15 +1,15 @@
 -- `list_records` meets its contract: the records call says what is listed, since the records always fit. Assumes nothing.
 use mathlib.Core.Path.{_≡_, sym, _∙_, ap}
-use mathlib.Core.List.{List}
+use mathlib.Core.List.{List, [], _∷_}
 use Prim.Native.Nat.{ℕ, _≤_}
 use native.Mathlib.Omega.{arith}
 use lib.ListN.{length}
 use Rattle.bits.specs.Verdict.{Verdict, mapped}
-use Rattle.payload.specs.Fill.{front}
+use Rattle.payload.specs.Lent.{buffersAfter}
 use Rattle.payload.specs.Mesh.{Mesh}
-use Rattle.payload.specs.MeshDrawing.{drawnRecords}
-use Rattle.payload.specs.Meshes.{recordsSays}
-use Rattle.meshlist.specs.Listing.{listing, listed}
+use Rattle.payload.specs.Meshes.{recordedMeshes, recordsSays}
+use Rattle.payload.proofs.LentLaws.{refused}
+use Rattle.meshlist.specs.Listing.{listing, listingPlan}
 use Rattle.meshlist.proofs.ListingLaws.{too-long, listed-is, listing-is, never-more, lines-fit}
 use denote.Ref.{now}
 use borrow.Author.Needs.{needs}
@@ -24,14 +24,23 @@ module _ (c : tie.After-mesh-records) where
   abbrev few : length s ≤ 16384
   few = omega arith
 
-  said : recordsSays (c .mesh-records .result) ≡ listing s
-  said = c .mesh-records .ensures .0 ∙ listing-is s few _ (omega arith)
+  abbrev out : List ℕ
+  out = now (c .before .before .before .before .before .args .records)
 
-  left : c .mesh-records .last .1 .0 ≡ front (mapped drawnRecords (listed s)) (now (c .before .before .before .before .before .args .records))
-  left = c .mesh-records .ensures .1 ∙ ap (λ (v : Verdict (List Mesh)). front (mapped drawnRecords v) (now (c .before .before .before .before .before .args .records))) (listed-is s few)
+  said : recordsSays (c .mesh-records .result) ≡ listing s
+  said = c .mesh-records .ensures .0 ∙ listing-is s few out (omega arith)
+
+  left : c .mesh-records .last .1 .0 ∷ [] ≡ buffersAfter (listingPlan s) (out ∷ [])
+  left =
+      c .mesh-records .ensures .1
+      ∙ ap (λ (v : Verdict (List Mesh)). buffersAfter (mapped recordedMeshes v) (out ∷ [])) (listed-is s few)
 
 returns : tie.Need-returns
-returns c = let e = too-long (now (c .before .before .before .args .payload)) (omega arith) in (rw e, (omega arith, rw e))
+returns c =
+    let a = c .before .before .before .args in
+    let e = too-long (now (a .payload)) (omega arith) in
+    let k = refused (listingPlan (now (a .payload))) (now (a .records) ∷ []) 2 (ap (mapped recordedMeshes) e) in
+    (rw e, (omega arith, k .1))
 
 mesh-records-requires : tie.Need-mesh-records-requires
 mesh-records-requires c κs = search needs

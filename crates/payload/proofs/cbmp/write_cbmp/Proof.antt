@@ -4,7 +4,7 @@ use Prim.Native.Nat.{ℕ, _≤_, _<_}
 use borrow.Author.Tests.{le-leb, lt-leb}
 use Rattle.bits.specs.Verdict.{accepted, declined}
 use Rattle.payload.specs.Cbmp.{cbmpBytes, cbmpWritten}
-use Rattle.payload.proofs.FillLaws.{told-declined, told-same}
+use Rattle.payload.proofs.LentLaws.{told-declined, told-same}
 use borrow.Author.Needs.{needs}
 use Rattle.payload.proofs.cbmp.write_cbmp.Statement.{statement}
 use Rattle.payload.proofs.cbmp.write_cbmp.Tie as tie
@@ -32,7 +32,8 @@ same-length c = search needs
 returns-2 : tie.Need-returns-2
 returns-2 c =
     let a = c .before .before .before .before .before .before .before .args in
-    told-same 1 _ (a .out .now) (cbmpBytes (a .padding)) _ _ (small (a .padding) (c .before .before .before .before .before .if1 .left)) (c .before .before .fill-words .ensures .0) (c .before .before .fill-words .ensures .1)
+    told-same 1 _ (a .out .now) (cbmpBytes (a .padding)) _ _ (small (a .padding) (c .before .before .before .before .before .if1 .left))
+    (c .before .before .fill-words .ensures)
 
 pub write-cbmp-spec : {M : Type 1} → statement M
 write-cbmp-spec =

@@ -5,7 +5,7 @@ use native.Mathlib.Omega.{arith}
 use borrow.Author.Needs.{needs}
 use Rattle.bits.specs.Verdict.{accepted}
 use Rattle.payload.specs.Cube.{cubePoints, cubeFloats}
-use Rattle.payload.proofs.FillLaws.{told-declined, told-needs, told-filled}
+use Rattle.payload.proofs.LentLaws.{told-declined, told-needs, told-filled}
 use Rattle.payload.proofs.CubeLaws.{square-small, length-points, cells-small, floats-no, floats-odd, floats-yes}
 use Rattle.payload.proofs.cube.cubemap_mesh.Statement.{statement}
 use Rattle.payload.proofs.cube.cubemap_mesh.Tie as tie

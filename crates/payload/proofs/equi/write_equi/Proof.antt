@@ -7,7 +7,7 @@ use Rattle.payload.specs.Equi.{cropOf, equiBytes, equiWritten}
 use Rattle.payload.specs.declared.equi.EquiFields.{EquiFields}
 use Rattle.payload.specs.declared.crop.Bounds.{Bounds}
 use borrow.Author.Tests.{not-true, not-false}
-use Rattle.payload.proofs.FillLaws.{told-declined, told-same}
+use Rattle.payload.proofs.LentLaws.{told-declined, told-same}
 use borrow.Author.Needs.{needs}
 use Rattle.payload.proofs.equi.write_equi.Statement.{statement}
 use Rattle.payload.proofs.equi.write_equi.Tie as tie
@@ -45,7 +45,7 @@ returns-2 : tie.Need-returns-2
 returns-2 c =
     let a = c .before .before .before .before .before .before .before .before .before .args in
     told-same 1 _ (a .out .now) (equiBytes (a .fields)) _ _ (fine (a .fields) _ (c .before .before .before .before .before .before .before .crop .ensures) _ (c .before .before .before .before .before .before .is-usable .ensures) (not-false _ (c .before .before .before .before .before .if1 .left)))
-    (c .before .before .fill-words .ensures .0) (c .before .before .fill-words .ensures .1)
+    (c .before .before .fill-words .ensures)
 
 pub write-equi-spec : {M : Type 1} → statement M
 write-equi-spec =

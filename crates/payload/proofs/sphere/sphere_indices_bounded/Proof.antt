@@ -9,7 +9,7 @@ use borrow.Author.Tests.{not-true, not-false}
 use Rattle.bits.specs.Verdict.{accepted}
 use Rattle.payload.specs.Float.{f0}
 use Rattle.payload.specs.Sphere.{gridUsable, gridTriangles, sphereNumbers}
-use Rattle.payload.proofs.FillLaws.{told-declined, told-needs, told-filled}
+use Rattle.payload.proofs.LentLaws.{told-declined, told-needs, told-filled}
 use Rattle.payload.proofs.SphereLaws.{numbers-grid, numbers-crop, numbers-yes}
 use Rattle.payload.proofs.sphere.sphere_indices_bounded.Statement.{statement}
 use Rattle.payload.proofs.sphere.sphere_indices_bounded.Tie as tie

@@ -5,7 +5,7 @@ use native.Mathlib.Omega.{arith}
 use borrow.Author.Needs.{needs}
 use borrow.Author.Tests.{not-true, not-false}
 use Rattle.payload.specs.Sphere.{gridUsable, sphereUvs}
-use Rattle.payload.proofs.FillLaws.{told-declined, told-needs, told-filled}
+use Rattle.payload.proofs.LentLaws.{told-declined, told-needs, told-filled}
 use Rattle.payload.proofs.SphereLaws.{usable-grid, uvs-length, uvs-grid, uvs-yes}
 use Rattle.payload.proofs.sphere.sphere_uvs.Statement.{statement}
 use Rattle.payload.proofs.sphere.sphere_uvs.Tie as tie

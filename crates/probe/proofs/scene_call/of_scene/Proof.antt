@@ -3,9 +3,9 @@ use mathlib.Core.Path.{sym, ap, _∙_}
 use mathlib.Core.List.{List, _∷_, _++_}
 use Prim.Native.Nat.{ℕ}
 use Rattle.bits.specs.Verdict.{accepted}
-use Rattle.scene.specs.Scene.{threeOf, sceneSays}
+use Rattle.scene.specs.Scene.{sceneSays}
 use Rattle.probe.specs.Answer.{told}
-use Rattle.probe.specs.Scene.{sceneWords}
+use Rattle.probe.specs.Scene.{lengthWords, sceneWords}
 use Rattle.probe.proofs.ShownLaws.{four-words}
 use borrow.Author.Needs.{needs}
 use Rattle.probe.proofs.scene_call.of_scene.Statement.{statement}
@@ -46,7 +46,7 @@ returns c =
     let w = c .before .before .before in
     let g = w .before .before .x .given in
     let n = g .0 .1 .0 in
-    ap (λ (l : List ℕ). accepted (0 ∷ l ++ threeOf n)) (four-words (w .word .ensures) (c .before .before .word2 .ensures) (c .before .word3 .ensures) (c .word4 .ensures))
+    ap (λ (l : List ℕ). accepted (0 ∷ l ++ lengthWords n)) (four-words (w .word .ensures) (c .before .before .word2 .ensures) (c .before .word3 .ensures) (c .word4 .ensures))
     ∙ sym (ap (λ x. told sceneWords (sceneSays x)) (g .1))
 
 returns-2 : tie.Need-returns-2

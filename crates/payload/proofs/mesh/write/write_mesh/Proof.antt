@@ -9,7 +9,7 @@ use Rattle.bits.proofs.VerdictLaws.{mapped-declined, mapped-value}
 use Rattle.payload.specs.MeshWrite.{meshWritten, tablesMesh}
 use Rattle.payload.specs.Writing.{judgedSays}
 use Rattle.payload.proofs.BoxLaws.{box-length}
-use Rattle.payload.proofs.FillLaws.{told-declined, told-filled, told-needs}
+use Rattle.payload.proofs.LentLaws.{told-declined, told-filled, told-needs}
 use Rattle.payload.proofs.JudgeLaws.{written-value}
 use Rattle.payload.proofs.mesh.write.write_mesh.Statement.{statement}
 use Rattle.payload.proofs.mesh.write.write_mesh.Tie as tie
