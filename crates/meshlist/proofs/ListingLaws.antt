@@ -8,12 +8,12 @@ use borrow.Author.Tests.{le-leb, lt-leb}
 use Rattle.bits.specs.Verdict.{Verdict, accepted, needs, declined, mapped}
 use Rattle.bits.proofs.VerdictLaws.{clash}
 use Rattle.payload.specs.Lent.{answerFor}
-use Rattle.payload.specs.Payload.{limited}
+use Rattle.bits.specs.Verdict.{limited}
 use Rattle.payload.specs.Mesh.{Mesh}
 use Rattle.payload.specs.MeshRead.{readMeshes}
 use Rattle.payload.specs.MeshDrawing.{drawnRecords, submeshTotal}
 use Rattle.payload.specs.Meshes.{listCounts, recordedMeshes, recordsPlan}
-use Rattle.payload.proofs.PayloadLaws.{limited-yes}
+use Rattle.bits.proofs.VerdictLaws.{limited-yes}
 use Rattle.payload.proofs.MeasureLaws.{list-fits, records-length}
 use Rattle.payload.proofs.SettledLaws.{never-needs}
 use Rattle.meshlist.specs.Listing.{listed, listing}

@@ -15,7 +15,8 @@ use Rattle.payload.specs.MeshSpells.{skips, MeshesSpell}
 use Rattle.payload.specs.MeshRead.{readMesh, readFrom, readMeshes}
 use Rattle.payload.specs.Tables.{bodyRead}
 use Rattle.payload.specs.Laws.{MeshesReads, BodySpells, MeshReads}
-use Rattle.payload.proofs.PayloadLaws.{limited-yes, limited-value}
+use Rattle.bits.proofs.VerdictLaws.{limited-yes}
+use Rattle.payload.proofs.PayloadLaws.{limited-value}
 use Rattle.payload.proofs.ReadLaws.{reads-laws}
 use Rattle.payload.proofs.MeshReadLaws.{mesh-spells, spells-mesh}
 use Rattle.payload.proofs.BoxReadLaws.{body-after, header-whole, Way, over, broken, whole, way, meshThen}

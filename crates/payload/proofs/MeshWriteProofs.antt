@@ -21,7 +21,7 @@ use Rattle.payload.proofs.JudgeLaws.{mesh-within, passes, told, under-b
 use Rattle.payload.proofs.MeshReadLaws.{spells-mesh}
 use Rattle.payload.proofs.MeshTheorems.{meshes-reads}
 use Rattle.payload.proofs.MeshWriteLaws.{Each, SubmeshWithin, Under, Within, mesh-bits}
-use Rattle.payload.proofs.PayloadLaws.{limited-yes}
+use Rattle.bits.proofs.VerdictLaws.{limited-yes}
 use Rattle.payload.proofs.ReadLaws.{writes-laws}
 use Rattle.payload.proofs.RowLaws.{first-row, limits-row, not-so}
 

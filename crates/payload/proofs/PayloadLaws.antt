@@ -11,18 +11,11 @@ use borrow.Author.Tests.{le-leb, lt-leb, leb-true, eqb-true}
 use Rattle.bits.specs.Verdict.{Verdict, accepted, declined, andThen, mapped}
 use Rattle.bits.specs.Field.{field}
 use Rattle.bits.specs.Read.{numberAt, placeIn}
-use Rattle.bits.proofs.VerdictLaws.{le-or-lt, tested-value, within-yes, within-value, within-refused, then-value, then-declined}
-use Rattle.payload.specs.Payload.{limited, fullBox}
+use Rattle.bits.proofs.VerdictLaws.{le-or-lt, tested-value, limited-yes, limited-no, within-yes, within-value, within-refused, then-value, then-declined}
+use Rattle.bits.specs.Verdict.{limited}
+use Rattle.payload.specs.Payload.{fullBox}
 
 module _ {A : Type 0} (s : List ℕ) (v : Verdict A) where
-  pub limited-yes : length s ≤ 67108864 → limited s v ≡ v
-  unfolding limited
-  limited-yes h = simp (le-leb (length s) 67108864 h)
-
-  pub limited-no : 67108864 < length s → limited s v ≡ declined 2
-  unfolding limited
-  limited-no h = simp (lt-leb (length s) 67108864 h)
-
   pub limited-value : (a : A) → limited s v ≡ accepted a → (length s ≤ 67108864) × (v ≡ accepted a)
   unfolding limited
   limited-value a e = let t = tested-value (leb (length s) 67108864) v 2 a e in (leb-true (length s) 67108864 (t .0), t .1)

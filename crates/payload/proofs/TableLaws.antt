@@ -17,7 +17,8 @@ use Rattle.payload.specs.Internal.{WasRead, runNumbers, submeshesRead, m
 use Rattle.payload.specs.Tables.{submeshRows, allPoints, poolTable, coordinateTable, submeshTable, pointTable, tableLengths, bodyRead}
 use Rattle.payload.specs.declared.mesh.measure.TableLengths.{TableLengths}
 use Rattle.payload.proofs.FillLaws.{sets-after}
-use Rattle.payload.proofs.PayloadLaws.{limited-yes, limited-no, limited-value}
+use Rattle.bits.proofs.VerdictLaws.{limited-yes, limited-no}
+use Rattle.payload.proofs.PayloadLaws.{limited-value}
 use Rattle.payload.proofs.StepLaws.{was-read, read-value}
 use Rattle.payload.proofs.RangeLaws.{words-length}
 use Rattle.payload.proofs.MeshReadLaws.{MeshParts, mesh-parts, mesh-spells}

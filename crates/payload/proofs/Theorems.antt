@@ -7,7 +7,7 @@ use mathlib.Core.List.{List, _++_}
 use lib.ListN.{length}
 use lib.Seq.{sets}
 use Rattle.bits.specs.Verdict.{Verdict, accepted, needs, declined, andThen, mapped}
-use Rattle.payload.specs.Payload.{limited}
+use Rattle.bits.specs.Verdict.{limited}
 use Rattle.payload.specs.Crop.{usable}
 use Rattle.payload.specs.Equi.{cropOf, equiFields, equiUsable}
 use Rattle.payload.specs.Mesh.{Mesh}
@@ -82,13 +82,6 @@ pub cube-marked : CubeMarked
 cube-marked = cube.cube-marked
 
 -- ---- a payload's limit
-
-module _ {A : Type 0} (s : List ℕ) (v : Verdict A) where
-  pub limited-yes : length s ≤ 67108864 → limited s v ≡ v
-  limited-yes = payload.limited-yes s v
-
-  pub limited-no : 67108864 < length s → limited s v ≡ declined 2
-  limited-no = payload.limited-no s v
 
 module _ {A B : Type 0} (s : List ℕ) where
   pub limited-then : (v : Verdict A) (f : A → Verdict B) → limited s (andThen v f) ≡ andThen (limited s v) f

@@ -13,7 +13,7 @@ use Rattle.bits.specs.Number.{widthOf}
 use Rattle.bits.specs.Header.{listEnd, box, headerAt}
 use Rattle.bits.proofs.VerdictLaws.{then-value, mapped-value, mapped-declined}
 use Rattle.bits.proofs.NumberLaws.{width-least}
-use Rattle.payload.specs.Payload.{limited}
+use Rattle.bits.specs.Verdict.{limited}
 use Rattle.payload.specs.Mesh.{Submesh, Mesh}
 use Rattle.bits.specs.Run.{zeros, Found, readRun}
 use Rattle.payload.specs.MeshSpells.{headerBytes, meshType, part}

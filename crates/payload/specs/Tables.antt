@@ -4,7 +4,7 @@ use mathlib.Core.List.{List, [], _∷_, _++_}
 use lib.ListN.{length}
 use Rattle.bits.specs.Verdict.{Verdict, accepted, needs, declined, mapped}
 use Rattle.payload.specs.Lent.{Plan}
-use Rattle.payload.specs.Payload.{limited}
+use Rattle.bits.specs.Verdict.{limited}
 use Rattle.payload.specs.Mesh.{Submesh, Mesh}
 use Rattle.payload.specs.MeshRead.{readMesh}
 use Rattle.payload.specs.declared.mesh.measure.TableLengths.{TableLengths}

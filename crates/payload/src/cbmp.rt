@@ -9,7 +9,7 @@ ghost use mathlib.Core.Path.{_≡_};
 ghost use mathlib.Core.List.{[], _∷_};
 ghost use Rattle.payload.specs.Fill.{filledSays};
 ghost use Rattle.payload.specs.Lent.{inItems, answerFor, buffersAfter, atEntry};
-ghost use Rattle.payload.specs.Payload.{limited};
+ghost use Rattle.bits.specs.Verdict.{limited};
 ghost use Rattle.payload.specs.Cbmp.{layoutThenPadding, cbmpRead, cbmpSays, cbmpWritten};
 
 // A padding, or the number of a refusal.

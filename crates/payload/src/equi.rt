@@ -11,7 +11,7 @@ ghost use mathlib.Core.List.{[], _∷_};
 ghost use Rattle.bits.specs.Verdict.{mapped};
 ghost use Rattle.payload.specs.Fill.{filledSays};
 ghost use Rattle.payload.specs.Lent.{inItems, answerFor, buffersAfter, atEntry};
-ghost use Rattle.payload.specs.Payload.{limited};
+ghost use Rattle.bits.specs.Verdict.{limited};
 ghost use Rattle.payload.specs.Equi.{cropOf, fourWords, equiFields, equiUsable, equiRead, withCrop};
 ghost use Rattle.payload.specs.Equi.{equiReadSays, equiSays, equiWritten};
 

@@ -13,7 +13,7 @@ ghost use mathlib.Core.List.{[], _∷_};
 ghost use Rattle.bits.specs.Verdict.{mapped};
 ghost use Rattle.payload.specs.Lent.{inItems, answerFor, buffersAfter, atEntry};
 ghost use Rattle.payload.specs.Crop.{usable};
-ghost use Rattle.payload.specs.Payload.{limited};
+ghost use Rattle.bits.specs.Verdict.{limited};
 ghost use Rattle.payload.specs.Equi.{equiRead, withCrop, equiSays, equiWritten};
 ghost use Rattle.payload.specs.Cbmp.{cbmpRead, cbmpSays, cbmpWritten};
 ghost use Rattle.probe.specs.Answer.{answers, leaves, told, one, says, truth};

@@ -12,7 +12,7 @@ ghost use mathlib.Core.Path.{_≡_};
 ghost use mathlib.Core.List.{[], _∷_};
 ghost use Rattle.bits.specs.Verdict.{accepted, mapped};
 ghost use Rattle.payload.specs.Lent.{inItems, answerFor, buffersAfter, atEntry};
-ghost use Rattle.payload.specs.Payload.{limited};
+ghost use Rattle.bits.specs.Verdict.{limited};
 ghost use Rattle.payload.specs.MeshRead.{readMeshes};
 ghost use Rattle.payload.specs.Meshes.{listSize, measuredSays, meshesPlan, meshesSays, recordsPlan, recordsSays};
 ghost use Rattle.payload.specs.Tables.{tablesPlan, tablesSays};

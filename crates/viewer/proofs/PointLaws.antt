@@ -3,7 +3,7 @@ use mathlib.Core.Path.{_≡_, refl, sym, ap, _∙_}
 use mathlib.Core.List.{List}
 use Prim.Native.Nat.{ℕ}
 use Rattle.bits.specs.Verdict.{Verdict, accepted, needs, declined, mapped}
-use Rattle.payload.specs.Payload.{limited}
+use Rattle.bits.specs.Verdict.{limited}
 use Rattle.payload.specs.Mesh.{Mesh}
 use Rattle.payload.specs.MeshDrawing.{pointTotal}
 use Rattle.payload.specs.Meshes.{listSize}

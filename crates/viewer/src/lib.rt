@@ -5,7 +5,7 @@ use payload::Measured;
 ghost use mathlib.Core.Path.{_≡_};
 ghost use Rattle.bits.specs.Verdict.{mapped};
 ghost use Rattle.payload.specs.Count.{countedSays, vertexCount, indexCount, cubemapVertexCount, cubemapIndexCount};
-ghost use Rattle.payload.specs.Payload.{limited};
+ghost use Rattle.bits.specs.Verdict.{limited};
 ghost use Rattle.payload.specs.MeshRead.{readMeshes};
 ghost use Rattle.payload.specs.MeshDrawing.{pointTotal};
 ghost use Rattle.payload.specs.Meshes.{measuredSays};

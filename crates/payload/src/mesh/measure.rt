@@ -10,7 +10,7 @@ ghost use mathlib.Core.Path.{_≡_};
 ghost use Prim.Native.Nat.{_+_, _*_, _≤_, _<_};
 ghost use lib.ListN.{length};
 ghost use Rattle.bits.specs.Verdict.{mapped};
-ghost use Rattle.payload.specs.Payload.{limited};
+ghost use Rattle.bits.specs.Verdict.{limited};
 ghost use Rattle.payload.specs.MeshRead.{many, readSubmesh, readSubmeshes, afterCounts, readMesh, readMeshes};
 ghost use Rattle.payload.specs.Internal.{SubmeshPlace, pointsEnd, submeshesSize, bodySize, Room, withBody, boxTotals, noTotals, totalsOf, submeshSays, submeshesSays, bodySays, totalsSays};
 ghost use Rattle.payload.specs.Meshes.{listSize, measuredSays};

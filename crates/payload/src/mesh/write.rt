@@ -10,7 +10,6 @@ ghost use mathlib.Core.Bool.{true};
 ghost use Prim.Native.Nat.{_+_, _*_, _%_, _^_, _≤_, _<_};
 ghost use lib.ListN.{length, getD};
 ghost use lib.Seq.{sets};
-ghost use Rattle.bits.specs.Put.{bytesOf};
 ghost use Rattle.bits.specs.Run.{zeros};
 ghost use Rattle.payload.specs.Fill.{filledSays};
 ghost use Rattle.payload.specs.Lent.{inItems, answerFor, buffersAfter, atEntry};
@@ -25,17 +24,6 @@ struct BitWriter {
     at: usize,
     held: u64,
     bits: usize,
-}
-
-// A word as four bytes: `bits::put_word` without its test, which would stand in the loop over every field.
-fn put_four(out: &mut [u8], at: usize, x: u32)
-    requires { ⌜ at + 4 ≤ length (now out) ⌝ }
-    ensures { λ _. ⌜ now (out .exit) ≡ sets (now (out .entry)) at (bytesOf 4 x) ⌝ }
-{
-    out[at] = (x / 0x100_0000) as u8;
-    out[at + 1] = (x / 0x1_0000 % 0x100) as u8;
-    out[at + 2] = (x / 0x100 % 0x100) as u8;
-    out[at + 3] = (x % 0x100) as u8;
 }
 
 // The bits that wait with a field after them.
@@ -64,7 +52,7 @@ fn put(out: &mut [u8], from: BitWriter, width: usize, value: u32) -> BitWriter
         };
     }
     let left = all - 32;
-    put_four(out, at, ((word >> left) % 0x1_0000_0000) as u32);
+    bits::put_word(out, at, ((word >> left) % 0x1_0000_0000) as u32);
     BitWriter {
         at: at + 4,
         held: word,

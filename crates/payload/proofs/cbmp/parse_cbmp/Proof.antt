@@ -5,7 +5,7 @@ use Prim.Native.Nat.{ℕ}
 use Rattle.bits.specs.Verdict.{Verdict, accepted, declined}
 use Rattle.payload.specs.Payload.{fullBox, fullBoxSays}
 use Rattle.payload.specs.Cbmp.{layoutThenPadding, cbmpRead}
-use Rattle.payload.proofs.PayloadLaws.{limited-yes, limited-no}
+use Rattle.bits.proofs.VerdictLaws.{limited-yes, limited-no}
 use borrow.Author.Needs.{needs}
 use Rattle.payload.proofs.cbmp.parse_cbmp.Statement.{statement}
 use Rattle.payload.proofs.cbmp.parse_cbmp.Tie as tie

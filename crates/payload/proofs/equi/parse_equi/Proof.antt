@@ -6,7 +6,7 @@ use Rattle.bits.specs.Verdict.{Verdict, accepted, declined, mapped}
 use Rattle.payload.specs.Equi.{equiFields, equiUsable, equiRead, equiReadSays, withCrop}
 use Rattle.payload.specs.declared.equi.EquiFields.{EquiFields}
 use Rattle.payload.specs.declared.crop.Bounds.{Bounds}
-use Rattle.payload.proofs.PayloadLaws.{limited-yes, limited-no}
+use Rattle.bits.proofs.VerdictLaws.{limited-yes, limited-no}
 use borrow.Author.Needs.{needs}
 use Rattle.payload.proofs.equi.parse_equi.Statement.{statement}
 use Rattle.payload.proofs.equi.parse_equi.Tie as tie

@@ -2,7 +2,7 @@
 use mathlib.Core.Path.{sym, ap, _∙_}
 use native.Mathlib.Omega.{arith}
 use Rattle.payload.specs.Internal.{totalsSays}
-use Rattle.payload.proofs.PayloadLaws.{limited-yes, limited-no}
+use Rattle.bits.proofs.VerdictLaws.{limited-yes, limited-no}
 use Rattle.payload.proofs.MeasureLaws.{measured-says, measured-room}
 use borrow.Author.Needs.{needs}
 use Rattle.payload.proofs.mesh.measure.measure_meshes.Statement.{statement}
