@@ -1,6 +1,6 @@
 -- The theorems of specs/Laws.antt. Assumes nothing.
 use Prim.Native.Nat.{ℕ, _+_, _*_, _%_, _^_, _≤_, _<_}
-use mathlib.Core.Path.{_≡_, ap, _∙_}
+use mathlib.Core.Path.{_≡_, sym, ap, _∙_}
 use mathlib.Core.Logic.{_⊎_, inl, inr}
 use mathlib.Core.List.{List}
 use native.Mathlib.Omega.{arith}
@@ -9,10 +9,16 @@ use lib.ListN.{length, getD}
 use lib.Pow.{pow-pos}
 use Rattle.bits.specs.Field.{field}
 use Rattle.bits.specs.Put.{free, bitsPut, fieldPut}
-use Rattle.bits.specs.Laws.{FieldLaws, RunningLaws, WidthLaws, FieldPutLaws}
+use Rattle.bits.specs.Laws.{FieldLaws, ReadLaws, RunningLaws, RunLaws, WidthLaws, FieldPutLaws}
 use Rattle.bits.proofs.VerdictLaws.{le-or-lt}
 use Rattle.bits.proofs.FieldLaws.{field-lt, field-split, field-bytes, field-window, field-append, field-append-right, field-inj}
-use Rattle.bits.proofs.NumberLaws.{moves-meaning, meaning-moves, ran-moves, moves-ran, width-enough, width-least}
+use Rattle.bits.specs.Verdict.{accepted}
+use Rattle.bits.specs.Number.{Moves, steppedTo}
+use Rattle.bits.specs.Run.{RunSpells, readRun}
+use Rattle.bits.proofs.ReadLaws.{one-by-bits, two-by-bits, field-held}
+use Rattle.bits.proofs.NumberLaws.{moves-meaning, meaning-moves, ran-moves, moves-ran, stepped-in, moves-stepped, width-enough, width-least}
+use Rattle.bits.proofs.RunLaws.{run-spells, spells-run}
+use Rattle.bits.proofs.SummedLaws.{read-summed}
 use Rattle.bits.proofs.PutLaws.{field-put-yes, field-put-no, field-bitsPut, before-bitsPut, free-bitsPut, after-bitsPut, length-bitsPut, field-word-put}
 
 pub field-laws : FieldLaws
@@ -27,12 +33,31 @@ field-laws =
       equal = field-inj;
     }
 
+pub read-laws : ReadLaws
+read-laws = record { one = one-by-bits; two = two-by-bits; held = field-held }
+
+stepped-moves : (limit last f next : ℕ) → f < 2 ^ 32 → limit ≤ 2 ^ 32 → (steppedTo last f ≡ next) × (next < limit) → Moves f last next × (next < limit)
+stepped-moves limit last f next hf hl (e, l) =
+    ran-moves last f limit next (stepped-in last f limit hf hl (rw e l) ∙ ap accepted e)
+
 pub running-laws : RunningLaws
 running-laws =
     record {
       zigzag = λ f last next. (moves-meaning last f next, meaning-moves last f next);
       step = λ limit last f next. (ran-moves last f limit next, λ m. moves-ran last f limit next (m .0) (m .1));
+      stepped = λ limit last f next hf hl. (stepped-moves limit last f next hf hl, λ m. (moves-stepped last f next (m .0), m .1));
     }
+
+pub run-laws : (s : List ℕ) (w limit n p : ℕ) (prior : List ℕ) → RunLaws s w limit n p prior
+run-laws s w limit n p prior =
+    record {
+      reads = λ o ns q. (run-spells s w limit n p prior ns q o, back o ns q);
+      hands-out = λ h ns q e. read-summed s w limit n p prior ns q h e;
+    }
+  where
+    back : 0 < length prior → (ns : List ℕ) (q : ℕ) → RunSpells s w limit p prior ns × (length ns ≡ n) × (q ≡ p + n * w) → readRun s w limit n p prior ≡ accepted (ns, q)
+    back o ns q (r, l, e) =
+        ap (λ (k : ℕ). readRun s w limit k p prior) (sym l) ∙ spells-run s w limit p prior ns o r ∙ ap (λ (k : ℕ). accepted (ns, k)) (ap (λ (k : ℕ). p + k * w) l ∙ sym e)
 
 pub width-laws : WidthLaws
 width-laws = record { enough = width-enough; least = width-least }

@@ -1,13 +1,15 @@
 -- The theorems about this crate's definitions, by name. Their proofs are in proofs/Theorems.antt and proofs/Marked.antt.
-use Prim.Native.Nat.{ℕ, _+_, _*_, _/_, _%_, _^_, _≤_, _<_}
+use Prim.Native.Nat.{ℕ, _+_, _-_, _*_, _/_, _%_, _^_, _≤_, _<_}
 use mathlib.Core.Path.{_≡_}
 use mathlib.Core.List.{List, [], _∷_, _++_, map}
 use mathlib.Core.Logic.{_↔_}
 use lib.ListN.{length, getD}
 use lib.IntN.{pos, negsuc, _+ℤ_}
-use Rattle.bits.specs.Verdict.{accepted}
-use Rattle.bits.specs.Field.{field}
-use Rattle.bits.specs.Number.{meaning, Moves, ranOn, widthOf}
+use Rattle.bits.specs.Verdict.{accepted, andThen, mapped}
+use Rattle.bits.specs.Field.{field, heldBits}
+use Rattle.bits.specs.Read.{fieldAt, twoAt, bitByBit}
+use Rattle.bits.specs.Number.{meaning, Moves, ranOn, steppedTo, widthOf}
+use Rattle.bits.specs.Run.{RunSpells, readRun, summed}
 use Rattle.bits.specs.Put.{free, fieldPut, wordPut}
 
 -- every element is a byte
@@ -30,10 +32,31 @@ pub record FieldLaws : Type 0 where
   -- equal bits of equal length are equal bytes
   pub equal : (s t : List ℕ) → length s ≡ length t → Bytes s → Bytes t → field s 0 (8 * length s) ≡ field t 0 (8 * length t) → s ≡ t
 
+-- Reads, for an arbitrary width, place and slice: at the start of the data, inside it, at its end and past it.
+pub record ReadLaws : Type 0 where
+  -- one field, and two, give what w bits read one after the other give, and go on where those do
+  pub one : (s : List ℕ) (p w : ℕ) → fieldAt s p w ≡ bitByBit s p w
+  pub two : (s : List ℕ) (p w : ℕ)
+      → twoAt s p w ≡ andThen (bitByBit s p w) (λ u. mapped (λ v. (u .0, v .0, v .1)) (bitByBit s (u .1) w))
+  -- a field that ends r bits before bit q, taken out of the bits that five bytes hold before it
+  pub held : (s : List ℕ) (p w r : ℕ) → w + r ≤ heldBits (p + w + r)
+      → field s (p + w + r - heldBits (p + w + r)) (heldBits (p + w + r)) / 2 ^ r % 2 ^ w ≡ field s p w
+
 -- a running number: the step, `Moves` and what the field means say the same
 pub record RunningLaws : Type 0 where
   pub zigzag : (f last next : ℕ) → Moves f last next ↔ (pos last +ℤ meaning f ≡ pos next)
   pub step : (limit last f next : ℕ) → (ranOn limit last f ≡ accepted next) ↔ (Moves f last next × (next < limit))
+  -- the step in 64 bits, as the loops take it and hold it against the limit once
+  pub stepped : (limit last f next : ℕ) → f < 2 ^ 32 → limit ≤ 2 ^ 32
+      → ((steppedTo last f ≡ next) × (next < limit)) ↔ (Moves f last next × (next < limit))
+
+-- a run: n fields of width w from bit p on, and the running numbers that `prior` starts with
+pub record RunLaws (s : List ℕ) (w limit n p : ℕ) (prior : List ℕ) : Type 0 where
+  -- it is read exactly where it is spelled
+  pub reads : 0 < length prior → (ns : List ℕ) (q : ℕ)
+      → (readRun s w limit n p prior ≡ accepted (ns, q)) ↔ (RunSpells s w limit p prior ns × (length ns ≡ n) × (q ≡ p + n * w))
+  -- and the numbers that are handed out are then those that were read
+  pub hands-out : limit ≤ 65536 → (ns : List ℕ) (q : ℕ) → readRun s w limit n p prior ≡ accepted (ns, q) → summed s w n p prior ≡ ns
 
 -- w(c) is the least w with 2^w at least 2 * c
 pub record WidthLaws : Type 0 where

@@ -14,8 +14,7 @@ use Rattle.payload.specs.MeshRead.{readMeshes}
 use Rattle.payload.specs.MeshDrawing.{drawnRecords, submeshTotal}
 use Rattle.payload.specs.Meshes.{listCounts, recordedMeshes, recordsPlan}
 use Rattle.bits.proofs.VerdictLaws.{limited-yes}
-use Rattle.payload.proofs.MeasureLaws.{list-fits, records-length}
-use Rattle.payload.proofs.SettledLaws.{never-needs}
+use Rattle.payload.proofs.Theorems.{list-fits, records-length, never-needs}
 use Rattle.meshlist.specs.Listing.{listed, listing}
 
 -- more bytes than are listed

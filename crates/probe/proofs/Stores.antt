@@ -7,7 +7,7 @@ use native.Mathlib.Omega.{arith}
 use lib.ListN.{length, getD, set, take}
 use lib.Seq.{sets, length-take-le, take-suc, take-all}
 use borrow.Author.Tests.{le-leb, lt-leb}
-use Rattle.payload.proofs.FillLaws.{sets-append}
+use Rattle.payload.proofs.Theorems.{sets-append}
 use lib.IntN.{pos, negsuc, _-ℤ_}
 use mir.Syntax.{w64}
 use mir.Val.{toZ, ofZ}

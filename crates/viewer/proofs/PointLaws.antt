@@ -7,7 +7,7 @@ use Rattle.bits.specs.Verdict.{limited}
 use Rattle.payload.specs.Mesh.{Mesh}
 use Rattle.payload.specs.MeshDrawing.{pointTotal}
 use Rattle.payload.specs.Meshes.{listSize}
-use Rattle.payload.proofs.PayloadLaws.{limited-mapped}
+use Rattle.payload.proofs.Theorems.{limited-mapped}
 use Rattle.viewer.specs.Number.{pointsOf}
 
 inside : (v : Verdict (List Mesh)) → mapped pointsOf (mapped listSize v) ≡ mapped pointTotal v
