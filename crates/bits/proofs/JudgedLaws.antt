@@ -12,7 +12,7 @@ use Rattle.bits.specs.Verdict.{Verdict, accepted, needs, declined, limit
 use Rattle.bits.specs.Field.{field}
 use Rattle.bits.specs.Number.{steppedTo, widthOf}
 use Rattle.bits.specs.Run.{Found, inFront, readRun, judged, low16}
-use Rattle.bits.specs.Inside.{Inside, five, MovedBy, allBelow, fiveLow}
+use Rattle.bits.specs.Internal.{Inside, five, MovedBy, allBelow, fiveLow}
 use Rattle.bits.specs.declared.fields.runs.Five.{Five}
 use Rattle.bits.specs.declared.fields.runs.Moved.{Moved}
 use Rattle.bits.proofs.VerdictLaws.{le-or-lt, clash, both-true, limited-yes, limited-no}

@@ -10,7 +10,7 @@ use Rattle.bits.specs.Verdict.{accepted}
 use Rattle.bits.specs.Field.{field}
 use Rattle.bits.specs.Number.{steppedTo}
 use Rattle.bits.specs.Run.{shift, readRun, lastOf, low16, summed}
-use Rattle.bits.specs.Inside.{five, MovedBy, fiveLow}
+use Rattle.bits.specs.Internal.{five, MovedBy, fiveLow}
 use Rattle.bits.specs.declared.fields.runs.Five.{Five}
 use Rattle.bits.specs.declared.fields.runs.Moved.{Moved}
 use Rattle.bits.proofs.NumberLaws.{ran-moves, moves-stepped}

@@ -10,7 +10,7 @@ use lib.Dec.{leb}
 use lib.ListN.{length}
 use borrow.Author.Tests.{le-leb, lt-leb, leb-true, eq-eqb, ne-eqb}
 use Rattle.bits.specs.Run.{zeros, summed, runThere, runFilled, fivesThere, fivesFilled}
-use Rattle.bits.specs.Inside.{Inside}
+use Rattle.bits.specs.Internal.{Inside}
 use Rattle.bits.proofs.VerdictLaws.{le-or-lt, both-true}
 
 module _ (s : List ℕ) (p w n : ℕ) where

@@ -1,4 +1,5 @@
--- The theorems about this crate's definitions, by name. Their proofs are in proofs/Theorems.antt and proofs/Marked.antt.
+-- The theorems about this crate's definitions, by name. Their proofs are in proofs/Theorems.antt and
+-- proofs/Marked.antt.
 use Prim.Native.Nat.{ℕ, _+_, _-_, _*_, _/_, _%_, _^_, _≤_, _<_}
 use mathlib.Core.Path.{_≡_}
 use mathlib.Core.List.{List, [], _∷_, _++_, map}
@@ -23,14 +24,16 @@ pub record FieldLaws : Type 0 where
   -- a field in two parts
   pub split : (s : List ℕ) (p a b : ℕ) → field s p (a + b) ≡ field s p a * 2 ^ b + field s (p + a) b
   -- only the bytes that it touches matter
-  pub local : (s t : List ℕ) (p w : ℕ) → ((k : ℕ) → p / 8 ≤ k → 8 * k < p + w → getD s k 0 ≡ getD t k 0) → field s p w ≡ field t p w
+  pub local : (s t : List ℕ) (p w : ℕ) → ((k : ℕ) → p / 8 ≤ k → 8 * k < p + w → getD s k 0 ≡ getD t k 0)
+      → field s p w ≡ field t p w
   -- a field taken out of a window that holds it, with a bits before it and r after
   pub window : (s : List ℕ) (p a w r : ℕ) → field s p (a + w + r) / 2 ^ r % 2 ^ w ≡ field s (p + a) w
   -- bytes added behind change nothing, bytes added in front move it
   pub behind : (s t : List ℕ) (p w : ℕ) → p + w ≤ 8 * length s → field (s ++ t) p w ≡ field s p w
   pub in-front : (s t : List ℕ) (p w : ℕ) → field (s ++ t) (8 * length s + p) w ≡ field t p w
   -- equal bits of equal length are equal bytes
-  pub equal : (s t : List ℕ) → length s ≡ length t → Bytes s → Bytes t → field s 0 (8 * length s) ≡ field t 0 (8 * length t) → s ≡ t
+  pub equal : (s t : List ℕ) → length s ≡ length t → Bytes s → Bytes t
+      → field s 0 (8 * length s) ≡ field t 0 (8 * length t) → s ≡ t
 
 -- Reads, for an arbitrary width, place and slice: at the start of the data, inside it, at its end and past it.
 pub record ReadLaws : Type 0 where
@@ -54,9 +57,11 @@ pub record RunningLaws : Type 0 where
 pub record RunLaws (s : List ℕ) (w limit n p : ℕ) (prior : List ℕ) : Type 0 where
   -- it is read exactly where it is spelled
   pub reads : 0 < length prior → (ns : List ℕ) (q : ℕ)
-      → (readRun s w limit n p prior ≡ accepted (ns, q)) ↔ (RunSpells s w limit p prior ns × (length ns ≡ n) × (q ≡ p + n * w))
+      → (readRun s w limit n p prior ≡ accepted (ns, q))
+      ↔ (RunSpells s w limit p prior ns × (length ns ≡ n) × (q ≡ p + n * w))
   -- and the numbers that are handed out are then those that were read
-  pub hands-out : limit ≤ 65536 → (ns : List ℕ) (q : ℕ) → readRun s w limit n p prior ≡ accepted (ns, q) → summed s w n p prior ≡ ns
+  pub hands-out : limit ≤ 65536 → (ns : List ℕ) (q : ℕ) → readRun s w limit n p prior ≡ accepted (ns, q)
+      → summed s w n p prior ≡ ns
 
 -- w(c) is the least w with 2^w at least 2 * c
 pub record WidthLaws : Type 0 where
@@ -66,9 +71,11 @@ pub record WidthLaws : Type 0 where
 -- a field that fits, put into a buffer
 pub record FieldPutLaws : Type 0 where
   pub read-back : (s : List ℕ) (p w x : ℕ) → p + w ≤ 8 * length s → field (fieldPut s p w x) p w ≡ x % 2 ^ w
-  pub before : (s : List ℕ) (p w x q u : ℕ) → p + w ≤ 8 * length s → q + u ≤ p → field (fieldPut s p w x) q u ≡ field s q u
+  pub before : (s : List ℕ) (p w x q u : ℕ) → p + w ≤ 8 * length s → q + u ≤ p
+      → field (fieldPut s p w x) q u ≡ field s q u
   pub free-bits : (s : List ℕ) (p w x : ℕ) → p + w ≤ 8 * length s → field (fieldPut s p w x) (p + w) (free p w) ≡ 0
-  pub after : (s : List ℕ) (p w x k : ℕ) → p + w ≤ 8 * length s → (p + w + 7) / 8 ≤ k → getD (fieldPut s p w x) k 0 ≡ getD s k 0
+  pub after : (s : List ℕ) (p w x k : ℕ) → p + w ≤ 8 * length s → (p + w + 7) / 8 ≤ k
+      → getD (fieldPut s p w x) k 0 ≡ getD s k 0
   pub same-length : (s : List ℕ) (p w x : ℕ) → length (fieldPut s p w x) ≡ length s
   -- and a word
   pub word-back : (s : List ℕ) (p x : ℕ) → p + 4 ≤ length s → x < 2 ^ 32 → field (wordPut s p x) (8 * p) 32 ≡ x

@@ -1,4 +1,5 @@
--- What a lent buffer holds after a word or a field was put into it, and what the call says. `sets s i l` is s with the list l stored from place i on.
+-- What a lent buffer holds after a word or a field was put into it, and what the call says. `sets s i l` is s with the
+-- list l stored from place i on.
 use Prim.Native.Nat.{ℕ, zero, suc, _+_, _-_, _*_, _/_, _%_, _^_}
 use mathlib.Core.List.{List, [], _∷_, _++_}
 use mathlib.Core.Bool.{cond}

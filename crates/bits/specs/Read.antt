@@ -1,4 +1,5 @@
--- What reading at a place gives: the value and the place after it, or 3, too few bytes or bits. And what each answer says.
+-- What reading at a place gives: the value and the place after it, or 3, too few bytes or bits. And what each answer
+-- says.
 use Prim.Native.Nat.{ℕ, zero, suc, _+_, _-_, _*_}
 use mathlib.Core.List.{List}
 use lib.ListN.{length}

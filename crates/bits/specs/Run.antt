@@ -1,4 +1,5 @@
--- A run of delta fields, each added to a running number: how it is laid out, how it is read, and the numbers that it hands out.
+-- A run of delta fields, each added to a running number: how it is laid out, how it is read, and the numbers that it
+-- hands out.
 use Prim.Native.Nat.{ℕ, zero, suc, _+_, _*_, _%_, _≤_, _<_}
 use mathlib.Core.List.{List, [], _∷_, _++_}
 use mathlib.Core.Bool.{Bool, _&&_, cond}
@@ -69,7 +70,8 @@ checkSays (R.Declined k) = declined k
 abbrev pub low16 : ℕ → ℕ
 low16 n = n % 65536
 
--- the running numbers after n fields of width w from bit p on, each modulo 2^16: where all stay in their limit, those of the run
+-- the running numbers after n fields of width w from bit p on, each modulo 2^16: where all stay in their limit, those
+-- of the run
 unfoldable pub summed : List ℕ → ℕ → ℕ → ℕ → List ℕ → List ℕ
 summed s w zero p prior = []
 summed s w (suc n) p prior =
@@ -81,7 +83,8 @@ abbrev pub lastOf : ℕ → List ℕ → ℕ
 lastOf x [] = x
 lastOf x (y ∷ l) = lastOf y l
 
--- n fields of a width of at most 16 from bit p on lie inside a body of at most 67,108,864 bytes, and not in its first four bytes
+-- n fields of a width of at most 16 from bit p on lie inside a body of at most 67,108,864 bytes, and not in its first
+-- four bytes
 unfoldable pub runThere : List ℕ → ℕ → ℕ → ℕ → Bool
 runThere s p w n =
     ((leb (length s) 67108864 && leb 1 w) && (leb w 16 && leb 33 p)) && leb (p + n * w) (8 * length s)

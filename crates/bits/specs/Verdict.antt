@@ -1,4 +1,5 @@
--- What a call says, in the words of document 01: a value, the lengths that the lent buffers need (its number 12), or the number of a refusal.
+-- What a call says, in the words of document 01: a value, the lengths that the lent buffers need (its number 12), or
+-- the number of a refusal.
 use Prim.Native.Nat.{ℕ}
 use mathlib.Core.List.{List}
 use mathlib.Core.Bool.{cond}

@@ -13,7 +13,7 @@ ghost use Prim.Native.Nat.{_+_, _-_, _*_, _/_, _%_, _^_, _≤_, _<_};
 ghost use lib.ListN.{length};
 ghost use Rattle.bits.specs.Field.{field, capped, room, heldBits};
 ghost use Rattle.bits.specs.Read.{fieldAt, fieldSays, twoAt, twoSays};
-ghost use Rattle.bits.specs.Inside.{Inside};
+ghost use Rattle.bits.specs.Internal.{Inside};
 
 // A place in a slice, counted in bits from the high bit of byte 0. It may lie past the end.
 pub struct BitCursor {
@@ -205,7 +205,8 @@ impl BitCursor {
         )
     }
 
-    // Two neighbouring fields of width bits each. Up to 16 bits they come out of one window. Callers see to it that the width is at most 32.
+    // Two neighbouring fields of width bits each. Up to 16 bits they come out of one window. Callers see to it that the
+    // width is at most 32.
     pub fn read_two(self, s: &[u8], width: u32) -> TwoRead
         requires { ⌜ width ≤ 32 ⌝ }
         ensures { λ r. ⌜ twoSays r ≡ twoAt (now (s .entry)) (self .bit) width ⌝ }

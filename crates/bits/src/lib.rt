@@ -1,4 +1,5 @@
-// Bytes and bits of a payload: cursors, fields, zigzag numbers, box headers, floats, and words and fields put into a buffer.
+// Bytes and bits of a payload: cursors, fields, zigzag numbers, box headers, floats, and words and fields put into a
+// buffer.
 // What each call answers is an equation with a definition of specs/.
 mod bytes;
 mod fields;

@@ -44,7 +44,8 @@ fn put_bytes(out: &mut [u8], at: usize, n: usize, x: u64)
 // The bytes that a field touches, as a number: the first off bits of the first byte, the low bits of value, and zeros.
 fn joined_of(first: u8, off: usize, width: usize, value: u32) -> u64
     requires { ⌜ (off < 8) × (width ≤ 32) ⌝ }
-    ensures { λ r. ⌜ r ≡ (first / 2 ^ (8 - off) * 2 ^ width + value % 2 ^ width) * 2 ^ (8 * ((off + width + 7) / 8) - off - width) ⌝ }
+    ensures { λ r. ⌜ r ≡ (first / 2 ^ (8 - off) * 2 ^ width + value % 2 ^ width) * 2 ^ (8 *
+        ((off + width + 7) / 8) - off - width) ⌝ }
 {
     let kept = (first as u64) >> (8 - off);
     let low = value as u64 % (1u64 << width);

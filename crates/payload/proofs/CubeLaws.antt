@@ -14,7 +14,7 @@ use borrow.Author.Tests.{leb-true, not-true, not-false}
 use Rattle.bits.specs.Verdict.{accepted, declined}
 use Rattle.payload.specs.Cube.{cellsUsable, cubeVertex, cubeCell, cubeRow, cubeFace, cubeTriangles, cubeNumbers, shareUsable, cubePoint, pointRow, pointFace, cubePoints, cubeFloats}
 use Rattle.payload.specs.declared.cube.Face.{Face}
-use Rattle.payload.specs.CubeParts.{cellOf, faceOf, pointOf, rowOf}
+use Rattle.payload.specs.InternalCube.{cellOf, faceOf, pointOf, rowOf}
 use Rattle.payload.proofs.FillLaws.{each-length}
 
 -- ---- small numbers

@@ -15,7 +15,7 @@ use Rattle.bits.proofs.VerdictLaws.{le-or-lt, tested-value}
 use Rattle.payload.specs.Laws.{Words32}
 use Rattle.payload.specs.Mesh.{Mesh}
 use Rattle.payload.specs.MeshWrite.{allBelow, boxSize, every, isMesh, meshBox, meshWritten, tablesMesh}
-use Rattle.payload.specs.Writing.{countsFit, lengthsFit, rowsFit, sizeOf}
+use Rattle.payload.specs.InternalWriting.{countsFit, lengthsFit, rowsFit, sizeOf}
 use Rattle.payload.proofs.BoxLaws.{box-length}
 use Rattle.payload.proofs.RangeLaws.{width-small, width-some}
 use Rattle.payload.proofs.MeshWriteLaws.{Under, Within, mesh-bits}

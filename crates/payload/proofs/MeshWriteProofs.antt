@@ -15,7 +15,7 @@ use Rattle.payload.specs.Mesh.{Mesh, Submesh}
 use Rattle.payload.specs.MeshSpells.{MeshSpells, MeshesSpell, SubmeshesSpell, submeshBits, vertexCount}
 use Rattle.payload.specs.MeshWrite.{boxSize, isMesh, meshBody, meshBox, rowWithin, submeshesOf, tablesMesh}
 use Rattle.payload.specs.Tables.{allPoints, coordinateTable, pointTable, poolTable, submeshRows, submeshTable}
-use Rattle.payload.specs.Writing.{rowFits, rowsFit}
+use Rattle.payload.specs.InternalWriting.{rowFits, rowsFit}
 use Rattle.payload.proofs.BoxLaws.{box-length, body-length, body-spells, box-body, box-spells, plain-body, plain-box, plain-size}
 use Rattle.payload.proofs.JudgeLaws.{mesh-within, passes, told, under-below, written-value, written-yes}
 use Rattle.payload.proofs.MeshReadLaws.{spells-mesh}

@@ -14,7 +14,7 @@ use Rattle.payload.specs.Mesh.{Submesh}
 use Rattle.payload.specs.MeshSpells.{sizes, submeshBits}
 use Rattle.bits.proofs.VerdictLaws.{clash}
 use Rattle.payload.specs.MeshWrite.{every, rowPoints, rowWithin, rowsWithin, submeshFields, submeshesFields, submeshesOf}
-use Rattle.payload.specs.Writing.{rowFits, rowsFit}
+use Rattle.payload.specs.InternalWriting.{rowFits, rowsFit}
 use Rattle.payload.proofs.RangeLaws.{width-small}
 use Rattle.payload.proofs.MeshWriteLaws.{Each, SubmeshWithin, Under}
 use Rattle.payload.proofs.PutRunLaws.{rest-cons, rest-none}

@@ -15,7 +15,8 @@ use Rattle.bits.specs.Verdict.{accepted, declined}
 use Rattle.payload.specs.Fill.{each}
 use Rattle.payload.specs.Float.{f0}
 use Rattle.payload.specs.Crop.{usable}
-use Rattle.payload.specs.Sphere.{gridUsable, upperTriangle, lowerTriangle, gridCell, gridRow, gridTriangles, sphereNumbers, shifted, cellOn, gridUv, uvRow, gridUvs, sphereUvs}
+use Rattle.payload.specs.Sphere.{gridUsable, upperTriangle, lowerTriangle, gridCell, gridRow, gridTriangles, sphereNumbers, gridUv, uvRow, gridUvs, sphereUvs}
+use Rattle.payload.specs.InternalSphere.{shifted, cellOn}
 use Rattle.payload.specs.declared.crop.Bounds.{Bounds}
 use Rattle.payload.proofs.FillLaws.{each-same, each-length}
 

@@ -15,7 +15,7 @@ use Rattle.bits.proofs.ByteLaws.{length-bytes}
 use Rattle.bits.proofs.FieldLaws.{field-zero}
 use Rattle.bits.proofs.PutLaws.{cat-lt, field-put-yes}
 use Rattle.payload.specs.Packed.{Field, Fits, bits, number, packed, spare}
-use Rattle.payload.specs.Writing.{Advances, Ready, outcome, waiting}
+use Rattle.payload.specs.InternalWriting.{Advances, Ready, outcome, waiting}
 use Rattle.payload.specs.declared.mesh.write.BitWriter.{BitWriter}
 use Rattle.payload.proofs.FillLaws.{sets-append}
 use Rattle.payload.proofs.PackedLaws.{bits-append, bytes-first, bytes-low, fits-append, packed-join, packed-out}

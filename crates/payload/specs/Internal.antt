@@ -188,7 +188,8 @@ pub record SomeRun (s : List ℕ) (run : Run) : Type 0 where
 abbrev pub someNumbers : List ℕ → Run → ℕ → List ℕ
 someNumbers s run from = summed s (widthOf (run .limit)) (run .count) (run .bit) (from ∷ [])
 
--- the submeshes, the mesh of a body, the meshes of a box, and those from a byte on that were read; none where they were refused
+-- the submeshes, the mesh of a body, the meshes of a box, and those from a byte on that were read; none where they were
+-- refused
 abbrev pub submeshesRead : Found (List Submesh) → List Submesh
 submeshesRead v = valueOr ([], 0) v .0
 
@@ -196,7 +197,8 @@ abbrev pub meshRead : List ℕ → Mesh
 meshRead s = valueOr (record { pool = []; vertices = []; submeshes = [] }, 0) (readMesh s) .0
 
 abbrev pub boxMeshes : List ℕ → ℕ → ℕ → ℕ → Verdict (List Mesh)
-boxMeshes s type body end = cond (eqb type meshType) (mapped (λ x. x .0 ∷ []) (readMesh (part s body end))) (accepted [])
+boxMeshes s type body end = cond (eqb type meshType) (mapped (λ x. x .0 ∷ []) (readMesh (part s body end)))
+    (accepted [])
 
 abbrev pub boxRead : List ℕ → ℕ → ℕ → ℕ → List Mesh
 boxRead s type body end = valueOr [] (boxMeshes s type body end)

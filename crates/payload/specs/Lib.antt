@@ -9,8 +9,9 @@ pub mod Words
 pub mod Equi
 pub mod Cbmp
 pub mod Sphere
+pub mod InternalSphere
 pub mod Cube
-pub mod CubeParts
+pub mod InternalCube
 pub mod Count
 pub mod View
 pub mod ShareLaws
@@ -29,4 +30,4 @@ pub mod Packed
 pub mod MeshWrite
 pub mod MeshMarked
 pub mod Laws
-pub mod Writing
+pub mod InternalWriting

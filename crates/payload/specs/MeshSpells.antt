@@ -72,7 +72,8 @@ pub record MeshSpells (s : List ℕ) (x : Mesh) : Type 0 where
   pub vertex-count : field s (32 * length (x .pool) + 32) 32 ≡ vertexCount x
   pub vertex-some : 1 ≤ vertexCount x
   pub vertex-most : vertexCount x ≤ 32000
-  pub vertices-run : RunSpells s (widthOf (length (x .pool))) (length (x .pool)) (verticesAt (length (x .pool))) (zeros 5)
+  pub vertices-run : RunSpells s (widthOf (length (x .pool))) (length (x .pool)) (verticesAt (length (x .pool)))
+      (zeros 5)
       (x .vertices)
   pub tail : submeshesAt x + 32 ≤ 8 * length s
   pub submesh-count : field s (submeshesAt x) 32 ≡ length (x .submeshes)

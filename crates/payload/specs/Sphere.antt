@@ -50,13 +50,6 @@ sphereNumbers rings sectors b =
     (cond (usable b) (accepted (gridTriangles rings sectors (eq (b .top) f0) (eq (b .bottom) f0))) (declined 10))
     (declined 9)
 
--- A row's triangles by the corners of its first cell: each number of the i-th cell is i more.
-abbrev pub shifted : ℕ → ℕ → ℕ → ℕ → List ℕ
-shifted a b c i = (a + i) ∷ (b + i) ∷ (c + i) ∷ []
-
-abbrev pub cellOn : ℕ → ℕ → ℕ → ℕ → ℕ → List ℕ
-cellOn a b c d i = shifted a d b i ++ shifted a c d i
-
 -- ---- texture coordinates, as bit patterns
 
 abbrev pub gridUv : ℕ → ℕ → ℕ → ℕ → List ℕ

@@ -15,7 +15,7 @@ ghost use Rattle.payload.specs.Lent.{inItems, answerFor, buffersAfter, a
 ghost use Rattle.payload.specs.Float.{ratio};
 ghost use Rattle.payload.specs.Cube.{cellsUsable, shareUsable, cubeRow, cubeFace, cubeTriangles, cubeNumbers};
 ghost use Rattle.payload.specs.Cube.{pointFace, cubePoints, cubeFloats};
-ghost use Rattle.payload.specs.CubeParts.{cellOf, faceOf, along, between, pointOf, rowOf};
+ghost use Rattle.payload.specs.InternalCube.{cellOf, faceOf, along, between, pointOf, rowOf};
 
 fn cells_usable(cells: u32) -> bool
     ensures { λ r. ⌜ r ≡ cellsUsable cells ⌝ }

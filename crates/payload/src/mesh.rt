@@ -1,4 +1,5 @@
-// Kind 2, a list of mesh boxes: the page that names its parts, and what they share. All of them read bodies of at most 67,108,864 bytes.
+// Kind 2, a list of mesh boxes: the page that names its parts, and what they share. All of them read bodies of at most
+// 67,108,864 bytes.
 use bits::BitCursor;
 use bits::FieldRead;
 ghost use mathlib.Core.Path.{_≡_};

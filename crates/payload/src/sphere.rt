@@ -15,7 +15,8 @@ ghost use Rattle.payload.specs.Fill.{each, filledSays, bothLengths, leng
 ghost use Rattle.payload.specs.Lent.{inItems, answerFor, buffersAfter, atEntry};
 ghost use Rattle.payload.specs.Float.{f1, _⊖_, ratio};
 ghost use Rattle.payload.specs.Crop.{full};
-ghost use Rattle.payload.specs.Sphere.{gridUsable, shifted, cellOn, gridRow, gridTriangles, sphereNumbers};
+ghost use Rattle.payload.specs.Sphere.{gridUsable, gridRow, gridTriangles, sphereNumbers};
+ghost use Rattle.payload.specs.InternalSphere.{shifted, cellOn};
 ghost use Rattle.payload.specs.Sphere.{uvRow, gridUvs, sphereUvs};
 
 // Whether the grid is a closed surface whose vertex numbers fit a u16. For all u32, the last number fits a u64.

@@ -1,5 +1,7 @@
-// Runs: delta fields of one width, one after the other, each of which takes a running number to the next. One pass judges a run, and a
-// later one hands its numbers out. Whether all fields are there is tested once; then two of them come out of one window.
+// Runs: delta fields of one width, one after the other, each of which takes a running number to the next. One pass
+// judges a run, and a
+// later one hands its numbers out. Whether all fields are there is tested once; then two of them come out of one
+// window.
 use super::one_inside;
 use super::one_known;
 use super::two_inside;
@@ -12,10 +14,12 @@ ghost use lib.ListN.{length};
 ghost use lib.Seq.{sets};
 ghost use Rattle.bits.specs.Verdict.{limited};
 ghost use Rattle.bits.specs.Number.{widthOf};
-ghost use Rattle.bits.specs.Run.{zeros, readRun, judged, checkSays, low16, summed, runThere, runFilled, fivesThere, fivesFilled};
-ghost use Rattle.bits.specs.Inside.{Inside, five, MovedBy, allBelow, fiveLow};
+ghost use Rattle.bits.specs.Run.{zeros, readRun, judged, checkSays, low16, summed, runThere, runFilled};
+ghost use Rattle.bits.specs.Run.{fivesThere, fivesFilled};
+ghost use Rattle.bits.specs.Internal.{Inside, five, MovedBy, allBelow, fiveLow};
 
-// Where the first field stands, what the running numbers stay below, and how many fields there are, or how many fives of fields.
+// Where the first field stands, what the running numbers stay below, and how many fields there are, or how many fives
+// of fields.
 // A field is as wide as `bit_width` of the limit.
 pub struct Run {
     pub bit: usize,
@@ -69,7 +73,8 @@ fn check_each(s: &[u8], run: Run, width: u32, from: u16) -> RunCheck
 fn check_pairs(s: &[u8], run: Run, width: u32) -> RunCheck
     requires { ⌜ Inside (now s) (run .bit) (run .count * width) ⌝ }
     requires { ⌜ width ≤ 16 ⌝ }
-    ensures answer { λ r. ⌜ checkSays r ≡ judged (readRun (now (s .entry)) width (run .limit) (run .count) (run .bit) (zeros 1)) ⌝ }
+    ensures answer { λ r. ⌜ checkSays r
+        ≡ judged (readRun (now (s .entry)) width (run .limit) (run .count) (run .bit) (zeros 1)) ⌝ }
 {
     let limit = run.limit as u64;
     let mut bit = run.bit;
@@ -322,7 +327,8 @@ fn fill_pairs(s: &[u8], start: usize, width: u32, from: u16, out: &mut [u16])
     }
 }
 
-// Fills a buffer with the numbers of a run that was judged before, from any running number on, and answers whether the run is there.
+// Fills a buffer with the numbers of a run that was judged before, from any running number on, and answers whether the
+// run is there.
 pub fn fill_run(s: &[u8], bit: usize, width: u32, from: u16, out: &mut [u16]) -> bool
     ensures answer { λ r. ⌜ r ≡ runThere (now (s .entry)) bit width (length (now (out .entry))) ⌝ }
     ensures numbers { λ _. ⌜ now (out .exit) ≡ runFilled (now (s .entry)) bit width (from ∷ []) (now (out .entry)) ⌝ }
@@ -349,7 +355,8 @@ fn put_five(out: &mut [u16], at: usize, v: Five)
 fn fill_all_fives(s: &[u8], start: usize, width: u32, out: &mut [u16])
     requires { ⌜ Inside (now s) start (length (now out) * width) ⌝ }
     requires { ⌜ (1 ≤ width) × (width ≤ 16) × (length (now out) % 5 ≡ 0) ⌝ }
-    ensures numbers { λ _. ⌜ now (out .exit) ≡ summed (now (s .entry)) width (length (now (out .entry))) start (zeros 5) ⌝ }
+    ensures numbers { λ _. ⌜ now (out .exit)
+        ≡ summed (now (s .entry)) width (length (now (out .entry))) start (zeros 5) ⌝ }
 {
     let n = out.len();
     let mut bit = start;
@@ -369,7 +376,8 @@ fn fill_all_fives(s: &[u8], start: usize, width: u32, out: &mut [u16])
     }
 }
 
-// Fills a buffer of whole fives with the numbers of a run of five running numbers that was judged before, and answers whether the run is there.
+// Fills a buffer of whole fives with the numbers of a run of five running numbers that was judged before, and answers
+// whether the run is there.
 pub fn fill_fives(s: &[u8], bit: usize, width: u32, out: &mut [u16]) -> bool
     ensures answer { λ r. ⌜ r ≡ fivesThere (now (s .entry)) bit width (now (out .entry)) ⌝ }
     ensures numbers { λ _. ⌜ now (out .exit) ≡ fivesFilled (now (s .entry)) bit width (now (out .entry)) ⌝ }

@@ -1,6 +1,9 @@
-// The filling pass over a mesh list that was measured: nothing is tested again, and nothing can fail. Vertices' coordinate numbers go to
-// `numbers` first; points read them back from there, and their words from the payload, so that no memory is needed beside the buffers.
-// A mesh with many points for its vertices has its vertices expanded first, the five words of each, where its last points will go; a point
+// The filling pass over a mesh list that was measured: nothing is tested again, and nothing can fail. Vertices'
+// coordinate numbers go to
+// `numbers` first; points read them back from there, and their words from the payload, so that no memory is needed
+// beside the buffers.
+// A mesh with many points for its vertices has its vertices expanded first, the five words of each, where its last
+// points will go; a point
 // before them is then one copy, not ten reads far apart.
 use super::CoordinateNumber;
 use super::MESH;
@@ -23,9 +26,13 @@ ghost use lib.Seq.{sets};
 ghost use Rattle.bits.specs.Number.{widthOf};
 ghost use Rattle.bits.specs.Run.{lastOf};
 ghost use Rattle.payload.specs.MeshRead.{many, readSubmesh, readMesh, readMeshes};
-ghost use Rattle.payload.specs.MeshDrawing.{pointWords, runWords, submeshWords, submeshRecords, pointCount, recordsFrom, drawnNumbers, drawnFloats, drawnRecords};
-ghost use Rattle.payload.specs.Internal.{WasRead, RunPlace, pointsOf, PointsPooled, PointsExpanded, PointsBelow, SomeOf, SomeRun, someNumbers};
-ghost use Rattle.payload.specs.Internal.{poolWord, wordAt, wordIn, wordsFrom, Pooled, ExpandedFrom, submeshesRead, meshRead, boxMeshes, boxRead, meshesFrom, FillRoom, afterMeshes, recordWords, RecordRoom, afterRecords};
+ghost use Rattle.payload.specs.MeshDrawing.{pointWords, runWords, submeshWords, submeshRecords, pointCount};
+ghost use Rattle.payload.specs.MeshDrawing.{recordsFrom, drawnNumbers, drawnFloats, drawnRecords};
+ghost use Rattle.payload.specs.Internal.{WasRead, RunPlace, pointsOf, PointsPooled, PointsExpanded, PointsBelow};
+ghost use Rattle.payload.specs.Internal.{SomeOf, SomeRun, someNumbers};
+ghost use Rattle.payload.specs.Internal.{poolWord, wordAt, wordIn, wordsFrom, Pooled, ExpandedFrom};
+ghost use Rattle.payload.specs.Internal.{submeshesRead, meshRead, boxMeshes, boxRead, meshesFrom, FillRoom};
+ghost use Rattle.payload.specs.Internal.{afterMeshes, recordWords, RecordRoom, afterRecords};
 ghost use Rattle.payload.specs.Lent.{answerFor, buffersAfter, atEntry};
 ghost use Rattle.payload.specs.Meshes.{meshesPlan, meshesSays, recordsPlan, recordsSays};
 
@@ -39,7 +46,8 @@ fn pool_word(s: &[u8], c: CoordinateNumber) -> u32
 
 // The pool word of the coordinate number at place k of numbers.
 fn word_at(s: &[u8], numbers: &[u16], k: usize) -> u32
-    requires { ⌜ (length (now s) ≤ 67108864) × (k < length (now numbers)) × (32 * getD (now numbers) k 0 + 64 ≤ 8 * length (now s)) ⌝ }
+    requires { ⌜ (length (now s) ≤ 67108864) × (k < length (now numbers))
+        × (32 * getD (now numbers) k 0 + 64 ≤ 8 * length (now s)) ⌝ }
     ensures { λ r. ⌜ r ≡ wordAt (now (s .entry)) (now (numbers .entry)) k ⌝ }
 {
     pool_word(s, CoordinateNumber(numbers[k]))
@@ -54,8 +62,10 @@ fn draw_point(
     words: &mut [u32],
     off: usize,
 )
-    requires { ⌜ (length (now s) ≤ 67108864) × (off + 5 ≤ length (now words)) × Pooled (now s) (now numbers) (base + 5 * v .0) 5 ⌝ }
-    ensures { λ _. ⌜ now (words .exit) ≡ sets (now (words .entry)) off (pointWords (wordAt (now (s .entry)) (now (numbers .entry))) (base + 5 * v .0)) ⌝ }
+    requires { ⌜ (length (now s) ≤ 67108864) × (off + 5 ≤ length (now words))
+        × Pooled (now s) (now numbers) (base + 5 * v .0) 5 ⌝ }
+    ensures { λ _. ⌜ now (words .exit) ≡ sets (now (words .entry)) off (pointWords (wordAt (now (s .entry)) (now
+        (numbers .entry))) (base + 5 * v .0)) ⌝ }
 {
     let k = base + 5 * (v.0 as usize);
     words[off] = word_at(s, numbers, k);
@@ -71,7 +81,8 @@ fn draw_points(s: &[u8], points: &[u16], numbers: &[u16], base: usize, words: &m
     requires { ⌜ PointsPooled (now s) (now numbers) base (now points) ⌝ }
     requires { ⌜ at + 5 * length (now points) ≤ length (now words) ⌝ }
     ensures floats { λ _. ⌜ now (words .exit)
-        ≡ sets (now (words .entry)) at (runWords (wordAt (now (s .entry)) (now (numbers .entry))) base (now (points .entry))) ⌝ }
+        ≡ sets (now (words .entry)) at
+        (runWords (wordAt (now (s .entry)) (now (numbers .entry))) base (now (points .entry))) ⌝ }
 {
     let mut i = 0;
     let mut to = at;
@@ -85,7 +96,8 @@ fn draw_points(s: &[u8], points: &[u16], numbers: &[u16], base: usize, words: &m
 // Copies the five words of a vertex to a place before them.
 fn copy_point(words: &mut [u32], from: usize, off: usize)
     requires { ⌜ (off + 5 ≤ from) × (from + 5 ≤ length (now words)) ⌝ }
-    ensures { λ _. ⌜ now (words .exit) ≡ sets (now (words .entry)) off (pointWords (wordIn (now (words .entry))) from) ⌝ }
+    ensures { λ _. ⌜ now (words .exit)
+        ≡ sets (now (words .entry)) off (pointWords (wordIn (now (words .entry))) from) ⌝ }
 {
     let a = words[from];
     let b = words[from + 1];
@@ -116,7 +128,8 @@ fn copy_points(points: &[u16], words: &mut [u32], expanded: usize, at: usize)
     }
 }
 
-// Stores the words of some vertices: by copies where they are expanded behind all that is stored, and else from the pool.
+// Stores the words of some vertices: by copies where they are expanded behind all that is stored, and else from the
+// pool.
 fn put_points(
     s: &[u8],
     points: &[u16],
@@ -133,7 +146,8 @@ fn put_points(
     requires { ⌜ (at + 5 * length (now points) ≤ length (now words)) × (1 ≤ length (now points)) ⌝ }
     requires { ⌜ ExpandedFrom at (now s) (now numbers) base (5 * m) (now words) expanded ⌝ }
     ensures floats { λ _. ⌜ now (words .exit)
-        ≡ sets (now (words .entry)) at (runWords (wordAt (now (s .entry)) (now (numbers .entry))) base (now (points .entry))) ⌝ }
+        ≡ sets (now (words .entry)) at
+        (runWords (wordAt (now (s .entry)) (now (numbers .entry))) base (now (points .entry))) ⌝ }
 {
     if expanded < at + 5 * points.len() {
         draw_points(s, points, numbers, base, words, at);
@@ -152,7 +166,8 @@ fn some_of(left: usize) -> usize
     32
 }
 
-// Stores the words of the next points of a run, and returns the last one's vertex. Their numbers are worked out first, so that the reads of
+// Stores the words of the next points of a run, and returns the last one's vertex. Their numbers are worked out first,
+// so that the reads of
 // their words do not wait for each other.
 fn draw_some(
     s: &[u8],
@@ -172,7 +187,8 @@ fn draw_some(
     ensures vertex { λ r. ⌜ r .0 ≡ lastOf (from .0) (someNumbers (now (s .entry)) run (from .0)) ⌝ }
     ensures floats { λ _. ⌜ now (words .exit)
         ≡ sets (now (words .entry)) at
-        (runWords (wordAt (now (s .entry)) (now (numbers .entry))) base (someNumbers (now (s .entry)) run (from .0))) ⌝ }
+        (runWords (wordAt (now (s .entry)) (now (numbers .entry))) base (someNumbers (now (s .entry)) run
+        (from .0))) ⌝ }
 {
     let n = run.count as usize;
     let width = bits::bit_width(run.limit as u32);
@@ -191,7 +207,8 @@ fn draw_some(
     VertexNumber(points[n - 1])
 }
 
-// Stores the words of a run of points that is known to be read whole. The vertices' coordinate numbers stand in numbers from base on;
+// Stores the words of a run of points that is known to be read whole. The vertices' coordinate numbers stand in numbers
+// from base on;
 // `expanded` is where their words are expanded.
 fn draw_run(
     s: &[u8],
@@ -207,7 +224,8 @@ fn draw_run(
     requires { ⌜ at + 5 * run .count ≤ length (now words) ⌝ }
     requires { ⌜ ExpandedFrom at (now s) (now numbers) base (5 * run .limit) (now words) expanded ⌝ }
     ensures floats { λ _. ⌜ now (words .exit)
-        ≡ sets (now (words .entry)) at (runWords (wordAt (now (s .entry)) (now (numbers .entry))) base (pointsOf (now (s .entry)) run)) ⌝ }
+        ≡ sets (now (words .entry)) at
+        (runWords (wordAt (now (s .entry)) (now (numbers .entry))) base (pointsOf (now (s .entry)) run)) ⌝ }
 {
     let limit = run.limit;
     let step = bits::bit_width(limit as u32) as usize;
@@ -238,7 +256,8 @@ fn draw_run(
     }
 }
 
-// Stores the words of some submeshes that are known to be read whole, and returns the place after them. `expanded` is 0 where the vertices are not.
+// Stores the words of some submeshes that are known to be read whole, and returns the place after them. `expanded` is 0
+// where the vertices are not.
 fn draw_submeshes(
     s: &[u8],
     p: usize,
@@ -250,10 +269,15 @@ fn draw_submeshes(
     off: usize,
     expanded: usize,
 ) -> usize
-    requires { ⌜ (length (now s) ≤ 67108864) × (m ≤ 32000) × (64 ≤ p) × (off + 5 * pointCount (submeshesRead (many (readSubmesh (now s) (widthOf m) m) count p)) ≤ length (now words)) × Pooled (now s) (now numbers) base (5 * m) × (1 ≤ m) ⌝ }
-    requires { ⌜ WasRead (many (readSubmesh (now s) (widthOf m) m) count p) × ExpandedFrom off (now s) (now numbers) base (5 * m) (now words) expanded ⌝ }
-    ensures { λ r. ⌜ r ≡ off + 5 * pointCount (submeshesRead (many (readSubmesh (now (s .entry)) (widthOf m) m) count p)) ⌝ }
-    ensures { λ _. ⌜ now (words .exit) ≡ sets (now (words .entry)) off (submeshWords (wordAt (now (s .entry)) (now (numbers .entry))) base (submeshesRead (many (readSubmesh (now (s .entry)) (widthOf m) m) count p))) ⌝ }
+    requires { ⌜ (length (now s) ≤ 67108864) × (m ≤ 32000) × (64 ≤ p)
+        × (off + 5 * pointCount (submeshesRead (many (readSubmesh (now s) (widthOf m) m) count p)) ≤ length
+        (now words)) × Pooled (now s) (now numbers) base (5 * m) × (1 ≤ m) ⌝ }
+    requires { ⌜ WasRead (many (readSubmesh (now s) (widthOf m) m) count p)
+        × ExpandedFrom off (now s) (now numbers) base (5 * m) (now words) expanded ⌝ }
+    ensures { λ r. ⌜ r ≡ off + 5 * pointCount
+        (submeshesRead (many (readSubmesh (now (s .entry)) (widthOf m) m) count p)) ⌝ }
+    ensures { λ _. ⌜ now (words .exit) ≡ sets (now (words .entry)) off (submeshWords (wordAt (now (s .entry)) (now
+        (numbers .entry))) base (submeshesRead (many (readSubmesh (now (s .entry)) (widthOf m) m) count p))) ⌝ }
 {
     let w = bits::bit_width(m) as usize;
     let mut bit = p;
@@ -283,8 +307,10 @@ fn expand_vertices(
     words: &mut [u32],
     at: usize,
 )
-    requires { ⌜ (length (now s) ≤ 67108864) × (at + count ≤ length (now words)) × Pooled (now s) (now numbers) base count ⌝ }
-    ensures { λ _. ⌜ now (words .exit) ≡ sets (now (words .entry)) at (wordsFrom (wordAt (now (s .entry)) (now (numbers .entry))) base count) ⌝ }
+    requires { ⌜ (length (now s) ≤ 67108864) × (at + count ≤ length (now words))
+        × Pooled (now s) (now numbers) base count ⌝ }
+    ensures { λ _. ⌜ now (words .exit) ≡ sets (now (words .entry)) at (wordsFrom (wordAt (now (s .entry)) (now
+        (numbers .entry))) base count) ⌝ }
 {
     let mut k = base;
     let mut o = at;
@@ -299,7 +325,8 @@ fn expand_vertices(
 
 // How many points some submeshes have that are known to be read whole.
 fn count_points(s: &[u8], p: usize, m: u32, count: u32) -> usize
-    requires { ⌜ (length (now s) ≤ 67108864) × (m ≤ 65536) × (64 ≤ p) × (pointCount (submeshesRead (many (readSubmesh (now s) (widthOf m) m) count p)) < 18446744073709551616) ⌝ }
+    requires { ⌜ (length (now s) ≤ 67108864) × (m ≤ 65536) × (64 ≤ p)
+        × (pointCount (submeshesRead (many (readSubmesh (now s) (widthOf m) m) count p)) < 18446744073709551616) ⌝ }
     requires { ⌜ WasRead (many (readSubmesh (now s) (widthOf m) m) count p) ⌝ }
     ensures { λ r. ⌜ r ≡ pointCount (submeshesRead (many (readSubmesh (now (s .entry)) (widthOf m) m) count p)) ⌝ }
 {
@@ -316,8 +343,10 @@ fn count_points(s: &[u8], p: usize, m: u32, count: u32) -> usize
     points
 }
 
-// Stores the words of all submeshes of a mesh, which are known to be read whole, and returns the place after them. The vertices are expanded where the
-// points are three for each vertex or more: with fewer it costs more than it saves, and with few vertices the counting does.
+// Stores the words of all submeshes of a mesh, which are known to be read whole, and returns the place after them. The
+// vertices are expanded where the
+// points are three for each vertex or more: with fewer it costs more than it saves, and with few vertices the counting
+// does.
 fn draw_expanded(
     s: &[u8],
     p: usize,
@@ -328,10 +357,14 @@ fn draw_expanded(
     words: &mut [u32],
     off: usize,
 ) -> usize
-    requires { ⌜ (length (now s) ≤ 67108864) × (m ≤ 32000) × (64 ≤ p) × (off + 5 * pointCount (submeshesRead (many (readSubmesh (now s) (widthOf m) m) count p)) ≤ length (now words)) × Pooled (now s) (now numbers) base (5 * m) × (1 ≤ m) ⌝ }
+    requires { ⌜ (length (now s) ≤ 67108864) × (m ≤ 32000) × (64 ≤ p)
+        × (off + 5 * pointCount (submeshesRead (many (readSubmesh (now s) (widthOf m) m) count p)) ≤ length
+        (now words)) × Pooled (now s) (now numbers) base (5 * m) × (1 ≤ m) ⌝ }
     requires { ⌜ WasRead (many (readSubmesh (now s) (widthOf m) m) count p) ⌝ }
-    ensures { λ r. ⌜ r ≡ off + 5 * pointCount (submeshesRead (many (readSubmesh (now (s .entry)) (widthOf m) m) count p)) ⌝ }
-    ensures { λ _. ⌜ now (words .exit) ≡ sets (now (words .entry)) off (submeshWords (wordAt (now (s .entry)) (now (numbers .entry))) base (submeshesRead (many (readSubmesh (now (s .entry)) (widthOf m) m) count p))) ⌝ }
+    ensures { λ r. ⌜ r ≡ off + 5 * pointCount
+        (submeshesRead (many (readSubmesh (now (s .entry)) (widthOf m) m) count p)) ⌝ }
+    ensures { λ _. ⌜ now (words .exit) ≡ sets (now (words .entry)) off (submeshWords (wordAt (now (s .entry)) (now
+        (numbers .entry))) base (submeshesRead (many (readSubmesh (now (s .entry)) (widthOf m) m) count p))) ⌝ }
 {
     let vertices = m as usize;
     if vertices < 64 {
@@ -354,10 +387,13 @@ struct Place {
 
 // Stores a mesh that is known to be read whole, and returns the places after it.
 fn draw_mesh(s: &[u8], numbers: &mut [u16], words: &mut [u32], to: Place) -> Place
-    requires { ⌜ (length (now s) ≤ 67108864) × WasRead (readMesh (now s)) × FillRoom (meshRead (now s) ∷ []) to (length (now numbers)) (length (now words)) ⌝ }
+    requires { ⌜ (length (now s) ≤ 67108864) × WasRead (readMesh (now s))
+        × FillRoom (meshRead (now s) ∷ []) to (length (now numbers)) (length (now words)) ⌝ }
     ensures { λ r. ⌜ r ≡ afterMeshes to (meshRead (now (s .entry)) ∷ []) ⌝ }
-    ensures { λ _. ⌜ now (numbers .exit) ≡ sets (now (numbers .entry)) (to .base) (drawnNumbers (meshRead (now (s .entry)) ∷ [])) ⌝ }
-    ensures { λ _. ⌜ now (words .exit) ≡ sets (now (words .entry)) (to .off) (drawnFloats (meshRead (now (s .entry)) ∷ [])) ⌝ }
+    ensures { λ _. ⌜ now (numbers .exit) ≡ sets (now (numbers .entry)) (to .base) (drawnNumbers (meshRead (now
+        (s .entry)) ∷ [])) ⌝ }
+    ensures { λ _. ⌜ now (words .exit)
+        ≡ sets (now (words .entry)) (to .off) (drawnFloats (meshRead (now (s .entry)) ∷ [])) ⌝ }
 {
     let h = mesh_head(s);
     let base = to.base;
@@ -389,11 +425,14 @@ fn draw_box(
     words: &mut [u32],
     to: Place,
 ) -> Place
-    requires { ⌜ (length (now s) ≤ 67108864) × (body ≤ end) × (end ≤ length (now s)) × WasRead (boxMeshes (now s) fourcc body end) ⌝ }
+    requires { ⌜ (length (now s) ≤ 67108864) × (body ≤ end) × (end ≤ length (now s))
+        × WasRead (boxMeshes (now s) fourcc body end) ⌝ }
     requires { ⌜ FillRoom (boxRead (now s) fourcc body end) to (length (now numbers)) (length (now words)) ⌝ }
     ensures { λ r. ⌜ r ≡ afterMeshes to (boxRead (now (s .entry)) fourcc body end) ⌝ }
-    ensures { λ _. ⌜ now (numbers .exit) ≡ sets (now (numbers .entry)) (to .base) (drawnNumbers (boxRead (now (s .entry)) fourcc body end)) ⌝ }
-    ensures { λ _. ⌜ now (words .exit) ≡ sets (now (words .entry)) (to .off) (drawnFloats (boxRead (now (s .entry)) fourcc body end)) ⌝ }
+    ensures { λ _. ⌜ now (numbers .exit) ≡ sets (now (numbers .entry)) (to .base) (drawnNumbers (boxRead (now
+        (s .entry)) fourcc body end)) ⌝ }
+    ensures { λ _. ⌜ now (words .exit) ≡ sets (now (words .entry)) (to .off) (drawnFloats (boxRead (now
+        (s .entry)) fourcc body end)) ⌝ }
 {
     if fourcc != MESH {
         return to;
@@ -404,8 +443,10 @@ fn draw_box(
 // Stores the meshes of a list of boxes that is known to be read whole.
 fn draw_boxes(s: &[u8], numbers: &mut [u16], words: &mut [u32])
     requires { ⌜ (length (now s) ≤ 67108864) × WasRead (readMeshes (now s)) ⌝ }
-    requires { ⌜ (length (drawnNumbers (meshesFrom (now s) 0)) ≤ length (now numbers)) × (length (drawnFloats (meshesFrom (now s) 0)) ≤ length (now words)) ⌝ }
-    ensures { λ _. ⌜ now (numbers .exit) ≡ sets (now (numbers .entry)) 0 (drawnNumbers (meshesFrom (now (s .entry)) 0)) ⌝ }
+    requires { ⌜ (length (drawnNumbers (meshesFrom (now s) 0)) ≤ length (now numbers))
+        × (length (drawnFloats (meshesFrom (now s) 0)) ≤ length (now words)) ⌝ }
+    ensures { λ _. ⌜ now (numbers .exit)
+        ≡ sets (now (numbers .entry)) 0 (drawnNumbers (meshesFrom (now (s .entry)) 0)) ⌝ }
     ensures { λ _. ⌜ now (words .exit) ≡ sets (now (words .entry)) 0 (drawnFloats (meshesFrom (now (s .entry)) 0)) ⌝ }
 {
     let mut at: usize = 0;
@@ -456,10 +497,13 @@ struct RecordPlace {
 
 // Stores the records of some submeshes that are known to be read whole, and returns the first point after them.
 fn fill_records(s: &[u8], p: usize, m: u32, count: u32, records: &mut [u32], to: RecordPlace) -> u32
-    requires { ⌜ (length (now s) ≤ 67108864) × (m ≤ 65536) × (64 ≤ p) × (to .off + 5 * count ≤ length (now records)) × (to .first + pointCount (submeshesRead (many (readSubmesh (now s) (widthOf m) m) count p)) < 4294967296) ⌝ }
+    requires { ⌜ (length (now s) ≤ 67108864) × (m ≤ 65536) × (64 ≤ p) × (to .off + 5 * count ≤ length (now records))
+        × (to .first + pointCount (submeshesRead (many (readSubmesh (now s) (widthOf m) m) count p)) < 4294967296) ⌝ }
     requires { ⌜ WasRead (many (readSubmesh (now s) (widthOf m) m) count p) ⌝ }
-    ensures { λ r. ⌜ r ≡ to .first + pointCount (submeshesRead (many (readSubmesh (now (s .entry)) (widthOf m) m) count p)) ⌝ }
-    ensures { λ _. ⌜ now (records .exit) ≡ sets (now (records .entry)) (to .off) (submeshRecords (to .mesh) (to .first) (submeshesRead (many (readSubmesh (now (s .entry)) (widthOf m) m) count p))) ⌝ }
+    ensures { λ r. ⌜ r ≡ to .first + pointCount
+        (submeshesRead (many (readSubmesh (now (s .entry)) (widthOf m) m) count p)) ⌝ }
+    ensures { λ _. ⌜ now (records .exit) ≡ sets (now (records .entry)) (to .off) (submeshRecords (to .mesh) (to .first)
+        (submeshesRead (many (readSubmesh (now (s .entry)) (widthOf m) m) count p))) ⌝ }
 {
     let w = bits::bit_width(m) as usize;
     let mesh = to.mesh;
@@ -492,9 +536,11 @@ fn fill_records(s: &[u8], p: usize, m: u32, count: u32, records: &mut [u32], to:
 
 // Stores the records of a mesh that is known to be read whole, and returns the place of the next one.
 fn record_mesh(s: &[u8], records: &mut [u32], to: RecordPlace) -> RecordPlace
-    requires { ⌜ (length (now s) ≤ 67108864) × WasRead (readMesh (now s)) × RecordRoom (meshRead (now s) ∷ []) to (length (now records)) ⌝ }
+    requires { ⌜ (length (now s) ≤ 67108864) × WasRead (readMesh (now s))
+        × RecordRoom (meshRead (now s) ∷ []) to (length (now records)) ⌝ }
     ensures { λ r. ⌜ r ≡ afterRecords to (meshRead (now (s .entry)) ∷ []) ⌝ }
-    ensures { λ _. ⌜ now (records .exit) ≡ sets (now (records .entry)) (to .off) (recordsFrom (to .mesh) (to .first) (meshRead (now (s .entry)) ∷ [])) ⌝ }
+    ensures { λ _. ⌜ now (records .exit) ≡ sets (now (records .entry)) (to .off) (recordsFrom (to .mesh) (to .first)
+        (meshRead (now (s .entry)) ∷ [])) ⌝ }
 {
     let h = mesh_head(s);
     let next = fill_records(s, h.first, h.vertices, h.submeshes, records, to);
@@ -514,10 +560,12 @@ fn record_box(
     records: &mut [u32],
     to: RecordPlace,
 ) -> RecordPlace
-    requires { ⌜ (length (now s) ≤ 67108864) × (body ≤ end) × (end ≤ length (now s)) × WasRead (boxMeshes (now s) fourcc body end) ⌝ }
+    requires { ⌜ (length (now s) ≤ 67108864) × (body ≤ end) × (end ≤ length (now s))
+        × WasRead (boxMeshes (now s) fourcc body end) ⌝ }
     requires { ⌜ RecordRoom (boxRead (now s) fourcc body end) to (length (now records)) ⌝ }
     ensures { λ r. ⌜ r ≡ afterRecords to (boxRead (now (s .entry)) fourcc body end) ⌝ }
-    ensures { λ _. ⌜ now (records .exit) ≡ sets (now (records .entry)) (to .off) (recordsFrom (to .mesh) (to .first) (boxRead (now (s .entry)) fourcc body end)) ⌝ }
+    ensures { λ _. ⌜ now (records .exit) ≡ sets (now (records .entry)) (to .off) (recordsFrom (to .mesh) (to .first)
+        (boxRead (now (s .entry)) fourcc body end)) ⌝ }
 {
     if fourcc != MESH {
         return to;
@@ -527,8 +575,10 @@ fn record_box(
 
 // Stores the records of a list of boxes that is known to be read whole.
 fn record_boxes(s: &[u8], records: &mut [u32])
-    requires { ⌜ (length (now s) ≤ 67108864) × WasRead (readMeshes (now s)) × (length (drawnRecords (meshesFrom (now s) 0)) ≤ length (now records)) ⌝ }
-    ensures { λ _. ⌜ now (records .exit) ≡ sets (now (records .entry)) 0 (drawnRecords (meshesFrom (now (s .entry)) 0)) ⌝ }
+    requires { ⌜ (length (now s) ≤ 67108864) × WasRead (readMeshes (now s))
+        × (length (drawnRecords (meshesFrom (now s) 0)) ≤ length (now records)) ⌝ }
+    ensures { λ _. ⌜ now (records .exit)
+        ≡ sets (now (records .entry)) 0 (drawnRecords (meshesFrom (now (s .entry)) 0)) ⌝ }
 {
     let mut at: usize = 0;
     let mut to = RecordPlace {

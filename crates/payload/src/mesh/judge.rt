@@ -4,7 +4,7 @@ ghost use Prim.Native.Nat.{_≤_};
 ghost use lib.ListN.{length};
 ghost use Rattle.bits.specs.Verdict.{mapped};
 ghost use Rattle.payload.specs.MeshWrite.{allBelow, meshWritten};
-ghost use Rattle.payload.specs.Writing.{rowFits, rowsFit, countsFit, lengthsFit, sizeOf, judgedSays};
+ghost use Rattle.payload.specs.InternalWriting.{rowFits, rowsFit, countsFit, lengthsFit, sizeOf, judgedSays};
 
 // The size of the tables' box, or that they are no mesh.
 pub enum Judged {

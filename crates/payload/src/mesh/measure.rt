@@ -1,4 +1,5 @@
-// The validating pass over a mesh list: it answers every refusal but 12, and how long the drawing is, and touches nothing.
+// The validating pass over a mesh list: it answers every refusal but 12, and how long the drawing is, and touches
+// nothing.
 use super::MESH;
 use super::one_field;
 use super::word;
@@ -12,7 +13,9 @@ ghost use lib.ListN.{length};
 ghost use Rattle.bits.specs.Verdict.{mapped};
 ghost use Rattle.bits.specs.Verdict.{limited};
 ghost use Rattle.payload.specs.MeshRead.{many, readSubmesh, readSubmeshes, afterCounts, readMesh, readMeshes};
-ghost use Rattle.payload.specs.Internal.{SubmeshPlace, pointsEnd, submeshesSize, bodySize, Room, withBody, boxTotals, noTotals, totalsOf, submeshSays, submeshesSays, bodySays, totalsSays};
+ghost use Rattle.payload.specs.Internal.{SubmeshPlace, pointsEnd, submeshesSize, bodySize, Room, withBody};
+ghost use Rattle.payload.specs.Internal.{boxTotals, noTotals, totalsOf, submeshSays, submeshesSays, bodySays};
+ghost use Rattle.payload.specs.Internal.{totalsSays};
 ghost use Rattle.payload.specs.Meshes.{listSize, measuredSays};
 ghost use Rattle.payload.specs.Tables.{tableLengths, bodyRead, lengthsSays};
 
@@ -117,7 +120,8 @@ enum BodySize {
 
 // From the vertices on, of which there are m, over n coordinates.
 fn check_vertices_on(s: &[u8], n: u32, m: u32) -> BodySize
-    requires { ⌜ (length (now s) ≤ 67108864) × (1 ≤ n) × (n ≤ 10000) × (1 ≤ m) × (m ≤ 32000) × (32 * n + 64 ≤ 8 * length (now s)) ⌝ }
+    requires { ⌜ (length (now s) ≤ 67108864) × (1 ≤ n) × (n ≤ 10000) × (1 ≤ m) × (m ≤ 32000)
+        × (32 * n + 64 ≤ 8 * length (now s)) ⌝ }
     ensures { λ r. ⌜ bodySays r ≡ mapped bodySize (afterCounts (now (s .entry)) n m) ⌝ }
 {
     let start = 32 * (n as usize) + 64;
@@ -246,7 +250,8 @@ fn measure_list(s: &[u8]) -> Totalled
 
 // Measures a mesh list: 2, then 3, 6, 7 and 8 in payload order.
 pub fn measure_meshes(payload: &[u8]) -> Measured
-    ensures { λ r. ⌜ measuredSays r ≡ limited (now (payload .entry)) (mapped listSize (readMeshes (now (payload .entry)))) ⌝ }
+    ensures { λ r. ⌜ measuredSays r
+        ≡ limited (now (payload .entry)) (mapped listSize (readMeshes (now (payload .entry)))) ⌝ }
 {
     if 67_108_864 < payload.len() {
         return Measured::Declined(2);

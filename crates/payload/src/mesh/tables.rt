@@ -1,5 +1,7 @@
-// A mesh body as four tables: pool words, coordinate numbers, three words for each submesh, and the vertex numbers of the points.
-// A body is measured first. What fills the tables goes over a body that is known to be read whole, and tests nothing again.
+// A mesh body as four tables: pool words, coordinate numbers, three words for each submesh, and the vertex numbers of
+// the points.
+// A body is measured first. What fills the tables goes over a body that is known to be read whole, and tests nothing
+// again.
 use super::fill_vertices;
 use super::measure::MeshMeasured;
 use super::measure::TableLengths;
@@ -16,7 +18,8 @@ ghost use lib.Seq.{sets};
 ghost use Rattle.bits.specs.Number.{widthOf};
 ghost use Rattle.payload.specs.MeshRead.{many, readSubmesh, readWords, readMesh};
 ghost use Rattle.payload.specs.Internal.{WasRead, RunPlace, pointsOf, submeshesRead, meshRead};
-ghost use Rattle.payload.specs.Tables.{submeshRows, allPoints, poolTable, coordinateTable, submeshTable, pointTable, tablesPlan, tablesSays};
+ghost use Rattle.payload.specs.Tables.{submeshRows, allPoints, poolTable, coordinateTable, submeshTable};
+ghost use Rattle.payload.specs.Tables.{pointTable, tablesPlan, tablesSays};
 ghost use Rattle.payload.specs.Lent.{answerFor, buffersAfter, atEntry};
 
 // Stores the n pool words.
@@ -46,7 +49,8 @@ fn put_row(out: &mut [u32], at: usize, texture: u32, mode: u32, points: u32)
 fn fill_rows(s: &[u8], p: usize, m: u32, count: u32, out: &mut [u32])
     requires { ⌜ (length (now s) ≤ 67108864) × (m ≤ 65536) × (64 ≤ p) × (3 * count ≤ length (now out)) ⌝ }
     requires { ⌜ WasRead (many (readSubmesh (now s) (widthOf m) m) count p) ⌝ }
-    ensures { λ _. ⌜ now (out .exit) ≡ sets (now (out .entry)) 0 (submeshRows (submeshesRead (many (readSubmesh (now (s .entry)) (widthOf m) m) count p))) ⌝ }
+    ensures { λ _. ⌜ now (out .exit) ≡ sets (now (out .entry)) 0 (submeshRows (submeshesRead (many (readSubmesh (now
+        (s .entry)) (widthOf m) m) count p))) ⌝ }
 {
     let w = bits::bit_width(m) as usize;
     let mut bit = p;
@@ -76,9 +80,12 @@ fn fill_run(s: &[u8], run: Run, out: &mut [u16], at: usize)
 
 // Stores the vertex numbers of the points of count submeshes from bit p on, over m vertices.
 fn fill_points(s: &[u8], p: usize, m: u32, count: u32, out: &mut [u16])
-    requires { ⌜ (length (now s) ≤ 67108864) × (m ≤ 32000) × (64 ≤ p) × (length (allPoints (submeshesRead (many (readSubmesh (now s) (widthOf m) m) count p))) ≤ length (now out)) × (1 ≤ m) ⌝ }
+    requires { ⌜ (length (now s) ≤ 67108864) × (m ≤ 32000) × (64 ≤ p)
+        × (length (allPoints (submeshesRead (many (readSubmesh (now s) (widthOf m) m) count p))) ≤ length (now out))
+        × (1 ≤ m) ⌝ }
     requires { ⌜ WasRead (many (readSubmesh (now s) (widthOf m) m) count p) ⌝ }
-    ensures { λ _. ⌜ now (out .exit) ≡ sets (now (out .entry)) 0 (allPoints (submeshesRead (many (readSubmesh (now (s .entry)) (widthOf m) m) count p))) ⌝ }
+    ensures { λ _. ⌜ now (out .exit) ≡ sets (now (out .entry)) 0 (allPoints (submeshesRead (many (readSubmesh (now
+        (s .entry)) (widthOf m) m) count p))) ⌝ }
 {
     let w = bits::bit_width(m) as usize;
     let mut bit = p;
@@ -106,10 +113,16 @@ fn fill_tables(
     submeshes: &mut [u32],
     points: &mut [u16],
 )
-    requires { ⌜ (length (now s) ≤ 67108864) × WasRead (readMesh (now s)) × (length (poolTable (meshRead (now s))) ≤ length (now pool)) × (length (coordinateTable (meshRead (now s))) ≤ length (now coordinates)) × (length (submeshTable (meshRead (now s))) ≤ length (now submeshes)) × (length (pointTable (meshRead (now s))) ≤ length (now points)) ⌝ }
+    requires { ⌜ (length (now s) ≤ 67108864) × WasRead (readMesh (now s))
+        × (length (poolTable (meshRead (now s))) ≤ length (now pool))
+        × (length (coordinateTable (meshRead (now s))) ≤ length (now coordinates))
+        × (length (submeshTable (meshRead (now s))) ≤ length (now submeshes))
+        × (length (pointTable (meshRead (now s))) ≤ length (now points)) ⌝ }
     ensures { λ _. ⌜ now (pool .exit) ≡ sets (now (pool .entry)) 0 (poolTable (meshRead (now (s .entry)))) ⌝ }
-    ensures { λ _. ⌜ now (coordinates .exit) ≡ sets (now (coordinates .entry)) 0 (coordinateTable (meshRead (now (s .entry)))) ⌝ }
-    ensures { λ _. ⌜ now (submeshes .exit) ≡ sets (now (submeshes .entry)) 0 (submeshTable (meshRead (now (s .entry)))) ⌝ }
+    ensures { λ _. ⌜ now (coordinates .exit) ≡ sets (now (coordinates .entry)) 0 (coordinateTable (meshRead (now
+        (s .entry)))) ⌝ }
+    ensures { λ _. ⌜ now (submeshes .exit)
+        ≡ sets (now (submeshes .entry)) 0 (submeshTable (meshRead (now (s .entry)))) ⌝ }
     ensures { λ _. ⌜ now (points .exit) ≡ sets (now (points .entry)) 0 (pointTable (meshRead (now (s .entry)))) ⌝ }
 {
     let h = mesh_head(s);

@@ -16,7 +16,7 @@ ghost use Rattle.payload.specs.Lent.{inItems, answerFor, buffersAfter, a
 ghost use Rattle.payload.specs.MeshWrite.{stepField, wordFields, runFields, submeshFields, submeshesFields};
 ghost use Rattle.payload.specs.MeshWrite.{vertexFields, boxSize, meshBox, submeshesOf, tablesMesh};
 ghost use Rattle.payload.specs.MeshWrite.{isMesh, meshWritten};
-ghost use Rattle.payload.specs.Writing.{Ready, Advances, outcome, restFields, rowsFit};
+ghost use Rattle.payload.specs.InternalWriting.{Ready, Advances, outcome, restFields, rowsFit};
 
 // The byte where the bits go that wait, and how many they are. They are the low bits of `held`; what stands above them
 // is out already.

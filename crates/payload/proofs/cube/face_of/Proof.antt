@@ -10,7 +10,7 @@ use Rattle.payload.specs.Float.{f0, f1, f2, f3, _⊕_, _⊖_, _⊘_}
 use Rattle.payload.specs.declared.cube.Axis.{Axis}
 use Rattle.payload.specs.declared.cube.Face.{Face}
 use Rattle.payload.specs.Cube.{f-1, faceTable}
-use Rattle.payload.specs.CubeParts.{axisOf, faceOf}
+use Rattle.payload.specs.InternalCube.{axisOf, faceOf}
 use Rattle.payload.proofs.cube.face_of.Statement.{statement}
 use Rattle.payload.proofs.cube.face_of.Tie as tie
 

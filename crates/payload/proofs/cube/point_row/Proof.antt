@@ -7,7 +7,7 @@ use lib.Seq.{sets}
 use lib.Ieee.{Float}
 use borrow.Author.Needs.{needs}
 use Rattle.payload.specs.declared.cube.Face.{Face}
-use Rattle.payload.specs.CubeParts.{pointOf, pointAt, rowOf}
+use Rattle.payload.specs.InternalCube.{pointOf, pointAt, rowOf}
 use Rattle.payload.proofs.FillLaws.{Filling, filling-none, filling-length, filling-room, filling-more, filling-all}
 use Rattle.payload.proofs.cube.point_row.Statement.{statement}
 use Rattle.payload.proofs.cube.point_row.Tie as tie

@@ -7,7 +7,7 @@ use native.Mathlib.Numerals.{towards-suc}
 use lib.Seq.{sets}
 use lib.ListN.{length-set}
 use borrow.Author.Needs.{needs}
-use Rattle.payload.specs.CubeParts.{pointOf}
+use Rattle.payload.specs.InternalCube.{pointOf}
 use Rattle.payload.proofs.cube.put_point.Statement.{statement}
 use Rattle.payload.proofs.cube.put_point.Tie as tie
 

@@ -4,7 +4,7 @@ use Prim.Native.Nat.{_+_, _-_, _≤_}
 use native.Mathlib.Omega.{arith}
 use lib.ListN.{length}
 use Rattle.payload.specs.Fill.{each}
-use Rattle.payload.specs.Sphere.{shifted, cellOn}
+use Rattle.payload.specs.InternalSphere.{shifted, cellOn}
 use Rattle.payload.proofs.FillLaws.{Holds, holds-none, holds-length, holds-next, holds-room, sets-then}
 use Rattle.payload.proofs.sphere.fill_cells.Statement.{statement}
 use Rattle.payload.proofs.sphere.fill_cells.Tie as tie

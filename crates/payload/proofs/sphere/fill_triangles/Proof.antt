@@ -4,7 +4,7 @@ use Prim.Native.Nat.{_+_, _-_, _≤_}
 use native.Mathlib.Omega.{arith}
 use lib.ListN.{length}
 use Rattle.payload.specs.Fill.{each}
-use Rattle.payload.specs.Sphere.{shifted}
+use Rattle.payload.specs.InternalSphere.{shifted}
 use Rattle.payload.proofs.FillLaws.{Holds, holds-none, holds-length, holds-next, holds-room}
 use Rattle.payload.proofs.sphere.fill_triangles.Statement.{statement}
 use Rattle.payload.proofs.sphere.fill_triangles.Tie as tie

@@ -4,7 +4,7 @@ use mathlib.Core.Path.{_≡_, refl, sym, _∙_}
 use native.Mathlib.Omega.{arith}
 use borrow.Author.Tests.{not-true, not-false}
 use Rattle.bits.specs.Run.{zeros, readRun, judged}
-use Rattle.bits.specs.Inside.{Inside, five}
+use Rattle.bits.specs.Internal.{Inside, five}
 use Rattle.bits.proofs.JudgedLaws.{group-inside, field-none, five-on, five-out}
 use borrow.Author.Needs.{needs}
 use Rattle.bits.proofs.fields.runs.check_all_fives.Statement.{statement}

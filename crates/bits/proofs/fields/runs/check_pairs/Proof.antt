@@ -6,7 +6,7 @@ use native.Mathlib.Omega.{arith}
 use lib.ListN.{length}
 use Rattle.bits.specs.Number.{steppedTo}
 use Rattle.bits.specs.Run.{zeros, readRun, judged}
-use Rattle.bits.specs.Inside.{Inside}
+use Rattle.bits.specs.Internal.{Inside}
 use Rattle.bits.proofs.JudgedLaws.{group-inside, field-out, two-out, two-on}
 use Rattle.bits.proofs.fields.runs.check_pairs.Statement.{statement}
 use Rattle.bits.proofs.fields.runs.check_pairs.Tie as tie

@@ -5,7 +5,7 @@ use native.Mathlib.Omega.{arith}
 use lib.ListN.{length}
 use lib.Seq.{sets}
 use Rattle.bits.specs.Run.{zeros, summed}
-use Rattle.bits.specs.Inside.{Inside, five}
+use Rattle.bits.specs.Internal.{Inside, five}
 use Rattle.bits.proofs.JudgedLaws.{group-inside}
 use Rattle.bits.proofs.SummedLaws.{length-summed, summed-none, summed-kept, Storing, stored-none, stored-on, stored-end}
 use Rattle.bits.proofs.fields.runs.fill_all_fives.Statement.{statement}

@@ -7,7 +7,7 @@ use lib.ListN.{length, length-set}
 use lib.Seq.{sets}
 use Rattle.bits.specs.Number.{steppedTo}
 use Rattle.bits.specs.Run.{low16, summed}
-use Rattle.bits.specs.Inside.{Inside}
+use Rattle.bits.specs.Internal.{Inside}
 use Rattle.bits.proofs.JudgedLaws.{group-inside}
 use Rattle.bits.proofs.SummedLaws.{length-summed, summed-none, summed-one, summed-two, Storing, stored-none, stored-on, stored-end}
 use Rattle.bits.proofs.fields.runs.fill_pairs.Statement.{statement}

@@ -1,6 +1,6 @@
 -- `counts_fit` meets its contract. Assumes nothing.
 use mathlib.Core.Path.{refl}
-use Rattle.payload.specs.Writing.{countsFit}
+use Rattle.payload.specs.InternalWriting.{countsFit}
 use Rattle.payload.proofs.mesh.judge.counts_fit.Statement.{statement}
 use Rattle.payload.proofs.mesh.judge.counts_fit.Tie as tie
 

@@ -1,6 +1,6 @@
 -- `lengths_fit` meets its contract. Assumes nothing.
 use mathlib.Core.Path.{refl}
-use Rattle.payload.specs.Writing.{lengthsFit}
+use Rattle.payload.specs.InternalWriting.{lengthsFit}
 use Rattle.payload.proofs.mesh.judge.lengths_fit.Statement.{statement}
 use Rattle.payload.proofs.mesh.judge.lengths_fit.Tie as tie
 

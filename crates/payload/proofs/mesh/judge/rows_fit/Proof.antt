@@ -5,7 +5,7 @@ use native.Mathlib.Omega.{arith}
 use lib.ListN.{length, drop}
 use borrow.Author.Needs.{needs}
 use borrow.Author.Tests.{not-true, not-false}
-use Rattle.payload.specs.Writing.{rowsFit}
+use Rattle.payload.specs.InternalWriting.{rowsFit}
 use Rattle.payload.proofs.RowLaws.{row-done, row-look, row-told, row-torn}
 use Rattle.payload.proofs.mesh.judge.rows_fit.Statement.{statement}
 use Rattle.payload.proofs.mesh.judge.rows_fit.Tie as tie

@@ -6,7 +6,7 @@ use native.Mathlib.Omega.{arith}
 use lib.ListN.{length, getD, drop}
 use borrow.Author.Needs.{needs}
 use Rattle.payload.specs.MeshWrite.{submeshesFields, submeshesOf}
-use Rattle.payload.specs.Writing.{rowsFit}
+use Rattle.payload.specs.InternalWriting.{rowsFit}
 use Rattle.payload.proofs.PutBoxLaws.{start}
 use Rattle.payload.proofs.RowLaws.{row-at, rows-end, subs-first}
 use Rattle.payload.proofs.WriterLaws.{Underway, head-ready, on-start, on-step}

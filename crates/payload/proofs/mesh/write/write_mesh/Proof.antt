@@ -7,7 +7,7 @@ use lib.Seq.{sets}
 use borrow.Author.Needs.{needs}
 use Rattle.bits.proofs.VerdictLaws.{mapped-declined, mapped-value}
 use Rattle.payload.specs.MeshWrite.{meshWritten, tablesMesh}
-use Rattle.payload.specs.Writing.{judgedSays}
+use Rattle.payload.specs.InternalWriting.{judgedSays}
 use Rattle.payload.proofs.BoxLaws.{box-length}
 use Rattle.payload.proofs.LentLaws.{told-declined, told-filled, told-needs}
 use Rattle.payload.proofs.JudgeLaws.{written-value}

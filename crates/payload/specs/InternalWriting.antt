@@ -1,4 +1,6 @@
--- What the private parts of the mesh writer go by: bits on their way into a buffer, and tables judged row by row.
+-- What the contracts of the mesh writer's private functions cite: bits on their way into a buffer, and tables judged
+-- row by row. No promise
+-- of a public call leans on these.
 use Prim.Native.Nat.{ℕ, zero, suc, _+_, _-_, _*_, _/_, _%_, _^_, _≤_, _<_}
 use mathlib.Core.Path.{_≡_}
 use mathlib.Core.List.{List, [], _∷_, _++_}

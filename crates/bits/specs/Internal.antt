@@ -31,7 +31,8 @@ pub record MovedBy (s : List ℕ) (w p : ℕ) (v : Five) (r : Moved) : Type 0 wh
 
 -- all five are below the limit
 abbrev pub allBelow : ℕ → Moved → Bool
-allBelow limit r = (((ltb (r .a) limit && ltb (r .b) limit) && ltb (r .c) limit) && ltb (r .d) limit) && ltb (r .e) limit
+allBelow limit r = (((ltb (r .a) limit && ltb (r .b) limit) && ltb (r .c) limit) && ltb (r .d) limit)
+    && ltb (r .e) limit
 
 -- the five in 16 bits
 abbrev pub fiveLow : Moved → List ℕ

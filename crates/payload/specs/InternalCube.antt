@@ -1,5 +1,6 @@
--- What the cube map's inner functions answer: a cell's numbers by its first corner, the floats of a face, and a point
--- and a row of points made of them.
+-- What the contracts of the cube map's private functions cite: a cell's numbers by its first corner, the floats of a
+-- face, and a
+-- point and a row of points made of them. No promise of a public call leans on these.
 use Prim.Native.Nat.{ℕ, _+_}
 use mathlib.Core.List.{List, [], _∷_}
 use lib.Ieee.{Float}
