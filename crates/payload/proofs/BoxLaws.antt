@@ -18,7 +18,7 @@ use Rattle.payload.specs.Laws.{PlainBox}
 use Rattle.payload.specs.Mesh.{Mesh, Submesh}
 use Rattle.payload.specs.MeshSpells.{BoxesSpell, MeshSpells, MeshesSpell, WholeBox, bodyAt, endAt, ends, headerBytes}
 use Rattle.payload.specs.MeshSpells.{holds, meshType, part, sizeAt, sizes, skips, submeshBits, submeshesAt}
-use Rattle.payload.specs.MeshSpells.{submeshesEnd, typeAt, vertexCount, verticesEnd}
+use Rattle.payload.specs.MeshSpells.{submeshesEnd, typeAt, meshVertices, verticesEnd}
 use Rattle.payload.specs.MeshWrite.{boxSize, gap, meshBody, meshBox, meshFields, runFields, submeshesFields, vertexFields, wordFields}
 use Rattle.payload.specs.Packed.{Field, Fits, Laid, bits, spare}
 use Rattle.bits.specs.Run.{zeros}
@@ -32,16 +32,16 @@ sizes-least w [] = omega arith
 sizes-least w (x ∷ l) = omega (arith, sizes-least w l)
 
 abbrev tailFields : Mesh → List Field
-tailFields x = gap (bits (vertexFields x)) ∷ (32, length (x .submeshes)) ∷ submeshesFields (widthOf (vertexCount x)) (x .submeshes)
+tailFields x = gap (bits (vertexFields x)) ∷ (32, length (x .submeshes)) ∷ submeshesFields (widthOf (meshVertices x)) (x .submeshes)
 
 abbrev runOf : Mesh → List Field
-runOf x = (32, vertexCount x) ∷ runFields (widthOf (length (x .pool))) (zeros 5) (x .vertices)
+runOf x = (32, meshVertices x) ∷ runFields (widthOf (length (x .pool))) (zeros 5) (x .vertices)
 
 pub mesh-fit : (x : Mesh) → Within x → Fits (meshFields x)
 unfolding meshFields vertexFields
 mesh-fit x h =
     let n : ℕ = length (x .pool) in
-    let m : ℕ = vertexCount x in
+    let m : ℕ = meshVertices x in
     let o : 0 < n = h .pool-some in
     let k : length (x .submeshes) < 2 ^ 32 = omega (arith, sizes-least (widthOf m) (x .submeshes), mesh-bits x, h .size) in
     fits-append (vertexFields x) (tailFields x) (
@@ -57,7 +57,7 @@ pub mesh-in : (s : List ℕ) (x : Mesh) → Within x → submeshesEnd x ≤ 8 * 
 unfolding meshFields vertexFields bits
 mesh-in s x h r f =
     let n : ℕ = length (x .pool) in
-    let m : ℕ = vertexCount x in
+    let m : ℕ = meshVertices x in
     let v : Laid s 0 (vertexFields x) = laid-left s 0 (vertexFields x) (tailFields x) f in
     let t : Laid s (0 + bits (vertexFields x)) (tailFields x) = laid-right s 0 (vertexFields x) (tailFields x) f in
     let u = laid-right s (0 + 32) (wordFields (x .pool)) (runOf x) (v .1) in
@@ -85,7 +85,7 @@ pub mesh-out : (s : List ℕ) (x : Mesh) → MeshSpells s x → field s (vertice
 unfolding meshFields vertexFields bits
 mesh-out s x e z =
     let n : ℕ = length (x .pool) in
-    let m : ℕ = vertexCount x in
+    let m : ℕ = meshVertices x in
     let g : 0 + bits (vertexFields x) ≡ verticesEnd x = omega (arith, vertex-bits x) in
     let c : submeshesAt x ≡ 0 + bits (vertexFields x) + spare (bits (vertexFields x)) = omega (arith, vertex-bits x) in
     laid-append s 0 (vertexFields x) (tailFields x) (

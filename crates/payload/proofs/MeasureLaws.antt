@@ -12,7 +12,7 @@ use Rattle.bits.specs.Number.{widthOf}
 use Rattle.bits.specs.Header.{box, headerAt}
 use Rattle.bits.proofs.VerdictLaws.{clash, then-yes, then-no, mapped-value, mapped-declined}
 use Rattle.payload.specs.Mesh.{Submesh, Mesh}
-use Rattle.payload.specs.MeshSpells.{submeshBits, SubmeshesSpell, vertexCount, submeshesAt, MeshSpells, meshType}
+use Rattle.payload.specs.MeshSpells.{submeshBits, SubmeshesSpell, meshVertices, submeshesAt, MeshSpells, meshType}
 use Rattle.payload.specs.MeshSpells.{part, headerBytes, bodyAt, endAt, sizes, BoxesSpell, ends, holds, skips}
 use Rattle.payload.specs.MeshRead.{readMesh, readFrom, readMeshes}
 use Rattle.payload.specs.MeshDrawing.{drawnNumbers, runWords, submeshWords, meshWords, coordinate, drawnFloats, submeshRecords, recordsFrom, drawnRecords, pointCount, submeshTotal, pointTotal}
@@ -34,11 +34,11 @@ submeshes-bits s w m p (x ∷ l) o h e =
     let c : p + 48 + length (x .points) * w ≤ 8 * length s = run-fits (length (x .points)) (e .0 .run) refl (e .0 .some) in
     omega (arith, submeshes-bits s w m (p + submeshBits w x) l o (omega arith) (e .1), mul-le-mul-left (length (x .points)) o)
 
-pub mesh-bits : (s : List ℕ) (x : Mesh) → MeshSpells s x → 5 * vertexCount x + 48 * length (x .submeshes) + pointCount (x .submeshes) ≤ 8 * length s
+pub mesh-bits : (s : List ℕ) (x : Mesh) → MeshSpells s x → 5 * meshVertices x + 48 * length (x .submeshes) + pointCount (x .submeshes) ≤ 8 * length s
 mesh-bits s x e =
     omega (
       arith,
-      submeshes-bits s (widthOf (vertexCount x)) (vertexCount x) (submeshesAt x + 32) (x .submeshes) (width-some (vertexCount x) (e .vertex-some)) (e .tail) (e .submeshes-run),
+      submeshes-bits s (widthOf (meshVertices x)) (meshVertices x) (submeshesAt x + 32) (x .submeshes) (width-some (meshVertices x) (e .vertex-some)) (e .tail) (e .submeshes-run),
       mul-le-mul-left (length (x .vertices)) (width-some (length (x .pool)) (e .pool-some)),
       e .fives,
     )
@@ -47,7 +47,7 @@ pub body-bits : (s : List ℕ) (m k points : ℕ) → accepted (m, k, points) �
 body-bits s m k points e =
     let v = mapped-value bodySize (readMesh s) (m, k, points) e in
     let x = v .0 .0 in
-    let a : vertexCount x ≡ m = ap (λ (y : ℕ × ℕ × ℕ). y .0) (v .2) in
+    let a : meshVertices x ≡ m = ap (λ (y : ℕ × ℕ × ℕ). y .0) (v .2) in
     let b : length (x .submeshes) ≡ k = ap (λ (y : ℕ × ℕ × ℕ). y .1) (v .2) in
     let c : pointCount (x .submeshes) ≡ points = ap (λ (y : ℕ × ℕ × ℕ). y .2) (v .2) in
     omega (arith, mesh-bits s x (mesh-spells s x (v .0 .1) (v .1)))
@@ -144,7 +144,7 @@ totals-room {s} {p} t (skips b n e) r = totals-room t e (room-on t p (endAt s p)
 
 -- the coordinates counted
 abbrev pub coordinateTotal : List Mesh → ℕ
-coordinateTotal l = sizes (λ (x : Mesh). 5 * vertexCount x) l
+coordinateTotal l = sizes (λ (x : Mesh). 5 * meshVertices x) l
 
 pub totals-are : (t : Totals) (l : List Mesh) → (totalsOf t l .meshes ≡ t .meshes + length l) × (totalsOf t l .coordinates ≡ t .coordinates + coordinateTotal l)
     × (totalsOf t l .submeshes ≡ t .submeshes + submeshTotal l) × (totalsOf t l .points ≡ t .points + pointTotal l)

@@ -11,7 +11,7 @@ use Rattle.bits.specs.Number.{widthOf}
 use Rattle.bits.proofs.VerdictLaws.{then-yes}
 use Rattle.payload.specs.Mesh.{Mesh}
 use Rattle.bits.specs.Run.{zeros, RunSpells}
-use Rattle.payload.specs.MeshSpells.{submeshBits, sizes, SubmeshesSpell, vertexCount, aligned, verticesAt}
+use Rattle.payload.specs.MeshSpells.{submeshBits, sizes, SubmeshesSpell, meshVertices, aligned, verticesAt}
 use Rattle.payload.specs.MeshSpells.{verticesEnd, submeshesAt, submeshesEnd, MeshSpells}
 use Rattle.payload.specs.MeshRead.{many, readSubmesh, readSubmeshes, readWords, meshOf, readMesh}
 use Rattle.bits.proofs.RunLaws.{complete-value, run-spells, spells-run}
@@ -96,7 +96,7 @@ module _ (s : List ℕ) where
           let v = parts-vertices r in
           let u = parts-submeshes r in
           let a : length (x .pool) ≡ r .n = ap length (r .pool-is) ∙ words-length s 32 (r .n) in
-          let b : vertexCount x ≡ r .m = omega (arith, v .1) in
+          let b : meshVertices x ≡ r .m = omega (arith, v .1) in
           let c : submeshesAt x ≡ aligned (r .q) = rw (a, v .1, v .2) in
           record {
             head = rw a (r .head);
@@ -118,7 +118,7 @@ module _ (s : List ℕ) where
   spelled : (x : Mesh) → MeshSpells s x → readMesh s ≡ accepted (x, submeshesEnd x)
   spelled x e =
       let n = length (x .pool) in
-      let m = vertexCount x in
+      let m = meshVertices x in
       let q = verticesEnd x in
       let r : vertexRun s n m ≡ accepted (x .vertices, q) =
       rw (← e .fives) (spells-run s (widthOf n) n (verticesAt n) (zeros 5) (x .vertices) (omega arith) (e .vertices-run)) in

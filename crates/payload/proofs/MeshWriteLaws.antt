@@ -10,7 +10,7 @@ use lib.ListN.{length, getD}
 use Rattle.bits.specs.Field.{field}
 use Rattle.bits.specs.Number.{Moves, down, up, widthOf}
 use Rattle.payload.specs.Mesh.{Mesh, Submesh}
-use Rattle.payload.specs.MeshSpells.{SubmeshSpells, SubmeshesSpell, sizes, submeshBits, submeshesEnd, vertexCount}
+use Rattle.payload.specs.MeshSpells.{SubmeshSpells, SubmeshesSpell, sizes, submeshBits, submeshesEnd, meshVertices}
 use Rattle.payload.specs.MeshWrite.{boxSize, gap, meshFields, runFields, stepField, submeshFields, submeshesFields, vertexFields, wordFields}
 use Rattle.payload.specs.Packed.{Fits, Laid, bits}
 use Rattle.bits.specs.Run.{zeros, RunSpells, shift}
@@ -39,12 +39,12 @@ pub record Within (x : Mesh) : Type 0 where
   pub pool-some : 1 ≤ length (x .pool)
   pub pool-most : length (x .pool) ≤ 10000
   pub words : Under (2 ^ 32) (x .pool)
-  pub fives : length (x .vertices) ≡ 5 * vertexCount x
-  pub vertex-some : 1 ≤ vertexCount x
-  pub vertex-most : vertexCount x ≤ 32000
+  pub fives : length (x .vertices) ≡ 5 * meshVertices x
+  pub vertex-some : 1 ≤ meshVertices x
+  pub vertex-most : meshVertices x ≤ 32000
   pub vertices : Under (length (x .pool)) (x .vertices)
   pub submesh-some : 1 ≤ length (x .submeshes)
-  pub submeshes : Each (SubmeshWithin (vertexCount x)) (x .submeshes)
+  pub submeshes : Each (SubmeshWithin (meshVertices x)) (x .submeshes)
   pub size : boxSize x ≤ 67108864
 
 -- ---- the field of a step
@@ -223,9 +223,9 @@ module _ (s : List ℕ) (w m : ℕ) where
 pub vertex-bits : (x : Mesh) → bits (vertexFields x) ≡ 32 * length (x .pool) + 64 + length (x .vertices) * widthOf (length (x .pool))
 unfolding vertexFields bits
 vertex-bits x =
-    omega (arith, bits-append (wordFields (x .pool)) ((32, vertexCount x) ∷ runFields (widthOf (length (x .pool))) (zeros 5) (x .vertices)), words-bits (x .pool), run-bits (widthOf (length (x .pool))) (zeros 5) (x .vertices))
+    omega (arith, bits-append (wordFields (x .pool)) ((32, meshVertices x) ∷ runFields (widthOf (length (x .pool))) (zeros 5) (x .vertices)), words-bits (x .pool), run-bits (widthOf (length (x .pool))) (zeros 5) (x .vertices))
 
 pub mesh-bits : (x : Mesh) → bits (meshFields x) ≡ submeshesEnd x
 unfolding meshFields bits
 mesh-bits x =
-    omega (arith, vertex-bits x, bits-append (vertexFields x) (gap (bits (vertexFields x)) ∷ (32, length (x .submeshes)) ∷ submeshesFields (widthOf (vertexCount x)) (x .submeshes)), submeshes-bits (widthOf (vertexCount x)) (x .submeshes))
+    omega (arith, vertex-bits x, bits-append (vertexFields x) (gap (bits (vertexFields x)) ∷ (32, length (x .submeshes)) ∷ submeshesFields (widthOf (meshVertices x)) (x .submeshes)), submeshes-bits (widthOf (meshVertices x)) (x .submeshes))

@@ -12,7 +12,7 @@ use Rattle.bits.specs.Verdict.{accepted, mapped}
 use Rattle.bits.proofs.FieldLaws.{field-lt}
 use Rattle.payload.specs.Laws.{MeshWrites, PlainBox, TablesRead, Words32, writtenOf}
 use Rattle.payload.specs.Mesh.{Mesh, Submesh}
-use Rattle.payload.specs.MeshSpells.{MeshSpells, MeshesSpell, SubmeshesSpell, submeshBits, vertexCount}
+use Rattle.payload.specs.MeshSpells.{MeshSpells, MeshesSpell, SubmeshesSpell, submeshBits, meshVertices}
 use Rattle.payload.specs.MeshWrite.{boxSize, isMesh, meshBody, meshBox, rowWithin, submeshesOf, tablesMesh}
 use Rattle.payload.specs.Tables.{allPoints, coordinateTable, pointTable, poolTable, submeshRows, submeshTable}
 use Rattle.payload.specs.InternalWriting.{rowFits, rowsFit}
@@ -101,8 +101,8 @@ rows-long (x ∷ l) = omega (arith, rows-long l)
 
 spelled-mesh : (s : List ℕ) (x : Mesh) → MeshSpells s x → boxSize x ≤ 67108864 → isMesh (poolTable x) (coordinateTable x) (submeshTable x) (pointTable x) ≡ true
 spelled-mesh s x e b =
-    let m : ℕ = vertexCount x in
-    let w : Each (SubmeshWithin (vertexCount x)) (x .submeshes) = subs-within s (widthOf (vertexCount x)) (vertexCount x) _ (x .submeshes) (e .submeshes-run) in
+    let m : ℕ = meshVertices x in
+    let w : Each (SubmeshWithin (meshVertices x)) (x .submeshes) = subs-within s (widthOf (meshVertices x)) (meshVertices x) _ (x .submeshes) (e .submeshes-run) in
     passes (poolTable x) (coordinateTable x) (submeshTable x) (pointTable x)
     (record {
       pool-some = e .pool-some;
@@ -112,8 +112,8 @@ spelled-mesh s x e b =
       vertex-most = e .vertex-most;
       coordinates-below = under-below (length (x .pool)) (x .vertices) (from-places (length (x .pool)) (x .vertices) (e .vertices-run .below));
       rows-some = omega (arith, rows-long (x .submeshes), e .submesh-some);
-      rows-fit = rows-fit (vertexCount x) (x .submeshes) w;
-      points-below = under-below (vertexCount x) (pointTable x) (points-under (vertexCount x) (x .submeshes) w);
+      rows-fit = rows-fit (meshVertices x) (x .submeshes) w;
+      points-below = under-below (meshVertices x) (pointTable x) (points-under (meshVertices x) (x .submeshes) w);
       size = rw (mesh-back x) b;
     })
 

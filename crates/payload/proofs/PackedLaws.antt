@@ -11,7 +11,7 @@ use Rattle.bits.specs.Field.{field}
 use Rattle.bits.specs.Put.{bytesOf}
 use Rattle.bits.proofs.ByteLaws.{bytes-lt, field-bytesOf, length-bytes}
 use Rattle.bits.proofs.FieldLaws.{field-inj, field-lt, field-split, field-zero}
-use Rattle.payload.specs.Packed.{Field, Fits, Laid, bits, number, packed, spare}
+use Rattle.payload.specs.Packed.{Field, Fits, Laid, bits, fieldsNumber, packed, spare}
 
 -- ---- one list after another
 
@@ -41,22 +41,22 @@ laid-right s p ((w, v) ∷ a) b f = subst (λ (q : ℕ). Laid s q b) (omega arit
 -- ---- the number
 
 -- what came before stands above
-pub number-above : (n : ℕ) (l : List Field) → number n l ≡ n * 2 ^ bits l + number 0 l
-unfolding number bits
+pub number-above : (n : ℕ) (l : List Field) → fieldsNumber n l ≡ n * 2 ^ bits l + fieldsNumber 0 l
+unfolding fieldsNumber bits
 number-above n [] = omega arith
 number-above n ((w, v) ∷ l) =
     let B : ℕ = 2 ^ bits l in
     number-above (n * 2 ^ w + v) l
-    ∙ ap (λ (x : ℕ). x + number 0 l) (add-mul (n * 2 ^ w) v B ∙ ap (λ (x : ℕ). x + v * B) (mul-assoc n (2 ^ w) B ∙ ap (λ (x : ℕ). n * x) (sym (pow-add 2 w (bits l)))))
-    ∙ add-assoc (n * 2 ^ (w + bits l)) (v * B) (number 0 l)
-    ∙ ap (λ (x : ℕ). n * 2 ^ (w + bits l) + x) (sym (ap (λ (x : ℕ). number x l) (omega arith) ∙ number-above v l))
+    ∙ ap (λ (x : ℕ). x + fieldsNumber 0 l) (add-mul (n * 2 ^ w) v B ∙ ap (λ (x : ℕ). x + v * B) (mul-assoc n (2 ^ w) B ∙ ap (λ (x : ℕ). n * x) (sym (pow-add 2 w (bits l)))))
+    ∙ add-assoc (n * 2 ^ (w + bits l)) (v * B) (fieldsNumber 0 l)
+    ∙ ap (λ (x : ℕ). n * 2 ^ (w + bits l) + x) (sym (ap (λ (x : ℕ). fieldsNumber x l) (omega arith) ∙ number-above v l))
 
-pub number-lt : (l : List Field) → Fits l → number 0 l < 2 ^ bits l
-unfolding number bits
+pub number-lt : (l : List Field) → Fits l → fieldsNumber 0 l < 2 ^ bits l
+unfolding fieldsNumber bits
 number-lt [] f = omega arith
 number-lt ((w, v) ∷ l) f =
-    let e : number v l ≡ v * 2 ^ bits l + number 0 l = number-above v l in
-    let h : v * 2 ^ bits l + number 0 l < 2 ^ w * 2 ^ bits l = digits-lt (f .0) (number-lt l (f .1)) in
+    let e : fieldsNumber v l ≡ v * 2 ^ bits l + fieldsNumber 0 l = number-above v l in
+    let h : v * 2 ^ bits l + fieldsNumber 0 l < 2 ^ w * 2 ^ bits l = digits-lt (f .0) (number-lt l (f .1)) in
     let z : 0 * 2 ^ w + v ≡ v = omega arith in
     rw (z, e, pow-add 2 w (bits l)) h
 
@@ -66,16 +66,16 @@ digits-unique a b x y k hx hy e =
     (sym (high a k hx) ∙ ap (λ (n : ℕ). n / 2 ^ k) e ∙ high b k hy, sym (low a k hx) ∙ ap (λ (n : ℕ). n % 2 ^ k) e ∙ low b k hy)
 
 -- fields that stand in s make its number
-pub laid-number : (s : List ℕ) (p : ℕ) (l : List Field) → Laid s p l → field s 0 (p + bits l) ≡ number (field s 0 p) l
-unfolding bits number
+pub laid-number : (s : List ℕ) (p : ℕ) (l : List Field) → Laid s p l → field s 0 (p + bits l) ≡ fieldsNumber (field s 0 p) l
+unfolding bits fieldsNumber
 laid-number s p [] f = ap (field s 0) (omega arith)
 laid-number s p ((w, v) ∷ l) f =
     let e : field s 0 (p + w) ≡ field s 0 p * 2 ^ w + v = field-split s 0 p w ∙ ap (λ (x : ℕ). field s 0 p * 2 ^ w + x) (ap (λ (q : ℕ). field s q w) (omega arith) ∙ f .0) in
-    ap (field s 0) (omega arith) ∙ laid-number s (p + w) l (f .1) ∙ ap (λ (x : ℕ). number x l) e
+    ap (field s 0) (omega arith) ∙ laid-number s (p + w) l (f .1) ∙ ap (λ (x : ℕ). fieldsNumber x l) e
 
 -- and where the number is theirs, they stand there
-pub number-laid : (s : List ℕ) (p n : ℕ) (l : List Field) → Fits l → field s 0 (p + bits l) ≡ number n l → (field s 0 p ≡ n) × Laid s p l
-unfolding bits number
+pub number-laid : (s : List ℕ) (p n : ℕ) (l : List Field) → Fits l → field s 0 (p + bits l) ≡ fieldsNumber n l → (field s 0 p ≡ n) × Laid s p l
+unfolding bits fieldsNumber
 number-laid s p n [] f e = (ap (field s 0) (omega arith) ∙ e, tt)
 number-laid s p n ((w, v) ∷ l) f e =
     let ih = number-laid s (p + w) (n * 2 ^ w + v) l (f .1) (ap (field s 0) (omega arith) ∙ e) in
@@ -99,11 +99,11 @@ pub packed-laid : (l : List Field) → Fits l → Laid (packed l) 0 l
 unfolding packed
 packed-laid l f =
     let B : ℕ = bits l in
-    let x : ℕ = number 0 l * 2 ^ spare B in
+    let x : ℕ = fieldsNumber 0 l * 2 ^ spare B in
     let s : List ℕ = bytesOf ((B + 7) / 8) x in
-    let a : field s 0 (B + spare B) ≡ x = ap (field s 0) (sym (whole B)) ∙ field-bytesOf ((B + 7) / 8) x ∙ mod-eq-of-lt (below (number 0 l) B (number-lt l f)) in
-    let b : field s 0 B ≡ number 0 l =
-    sym (high (field s 0 B) (spare B) (field-lt s (0 + B) (spare B))) ∙ ap (λ (y : ℕ). y / 2 ^ spare B) (sym (field-split s 0 B (spare B)) ∙ a) ∙ shl-shr (number 0 l) (spare B) in
+    let a : field s 0 (B + spare B) ≡ x = ap (field s 0) (sym (whole B)) ∙ field-bytesOf ((B + 7) / 8) x ∙ mod-eq-of-lt (below (fieldsNumber 0 l) B (number-lt l f)) in
+    let b : field s 0 B ≡ fieldsNumber 0 l =
+    sym (high (field s 0 B) (spare B) (field-lt s (0 + B) (spare B))) ∙ ap (λ (y : ℕ). y / 2 ^ spare B) (sym (field-split s 0 B (spare B)) ∙ a) ∙ shl-shr (fieldsNumber 0 l) (spare B) in
     number-laid s 0 0 l f (ap (field s 0) (omega arith) ∙ b) .1
 
 -- and bytes in which they stand, and then zero bits to the end of the last byte, are what is packed
@@ -112,25 +112,25 @@ unfolding packed
 laid-packed s l b e f z =
     let B : ℕ = bits l in
     let n : ℕ = (B + 7) / 8 in
-    let x : ℕ = number 0 l * 2 ^ spare B in
+    let x : ℕ = fieldsNumber 0 l * 2 ^ spare B in
     let t : List ℕ = bytesOf n x in
-    let i : field s 0 B ≡ number 0 l = ap (field s 0) (omega arith) ∙ laid-number s 0 l f ∙ ap (λ (y : ℕ). number y l) (field-zero s 0) in
-    let h : number 0 l < 2 ^ B = subst (λ (y : ℕ). y < 2 ^ B) i (field-lt s 0 B) in
+    let i : field s 0 B ≡ fieldsNumber 0 l = ap (field s 0) (omega arith) ∙ laid-number s 0 l f ∙ ap (λ (y : ℕ). fieldsNumber y l) (field-zero s 0) in
+    let h : fieldsNumber 0 l < 2 ^ B = subst (λ (y : ℕ). y < 2 ^ B) i (field-lt s 0 B) in
     let j : field s 0 (8 * n) ≡ x =
     ap (field s 0) (whole B) ∙ field-split s 0 B (spare B) ∙ ap₂ (λ (u v : ℕ). u * 2 ^ spare B + v) i (ap (λ (q : ℕ). field s q (spare B)) (omega arith) ∙ z) ∙ add-zero x in
     field-inj s t (e ∙ sym (length-bytes n x)) b (bytes-lt n x)
-    (ap (λ (k : ℕ). field s 0 (8 * k)) e ∙ j ∙ sym (mod-eq-of-lt (below (number 0 l) B h)) ∙ sym (field-bytesOf n x) ∙ ap (λ (k : ℕ). field t 0 (8 * k)) (sym (length-bytes n x)))
+    (ap (λ (k : ℕ). field s 0 (8 * k)) e ∙ j ∙ sym (mod-eq-of-lt (below (fieldsNumber 0 l) B h)) ∙ sym (field-bytesOf n x) ∙ ap (λ (k : ℕ). field t 0 (8 * k)) (sym (length-bytes n x)))
 
 -- ---- a writer: the bits that wait are the first field
 
 -- fields that make one number of bits are packed alike
-pub packed-same : (l m : List Field) → bits l ≡ bits m → number 0 l ≡ number 0 m → packed l ≡ packed m
+pub packed-same : (l m : List Field) → bits l ≡ bits m → fieldsNumber 0 l ≡ fieldsNumber 0 m → packed l ≡ packed m
 unfolding packed
 packed-same l m e f = rw (e, f)
 
 -- one field more waits
 pub packed-join : (k a w v : ℕ) (l : List Field) → packed ((k, a) ∷ (w, v) ∷ l) ≡ packed ((k + w, a * 2 ^ w + v) ∷ l)
-unfolding bits number
+unfolding bits fieldsNumber
 packed-join k a w v l =
     let z : 0 * 2 ^ k + a ≡ a = omega arith in
     let y : 0 * 2 ^ (k + w) + (a * 2 ^ w + v) ≡ a * 2 ^ w + v = omega arith in
@@ -159,20 +159,20 @@ bytes-low (suc n) h x y e =
 
 -- a whole byte of those that wait goes out
 pub packed-out : (k a b : ℕ) (l : List Field) → a < 2 ^ k → b < 256 → Fits l → packed ((8 + k, b * 2 ^ k + a) ∷ l) ≡ b ∷ packed ((k, a) ∷ l)
-unfolding packed bits number
+unfolding packed bits fieldsNumber
 packed-out k a b l h i f =
     let B : ℕ = bits l in
     let n : ℕ = (k + B + 7) / 8 in
     let r : ℕ = spare (k + B) in
     let c : (8 + k + B + 7) / 8 ≡ suc n = omega arith in
     let d : spare (8 + k + B) ≡ r = omega arith in
-    let N : ℕ = number 0 l in
-    let y : ℕ = number (0 * 2 ^ k + a) l * 2 ^ r in
-    let g : number (0 * 2 ^ (8 + k) + (b * 2 ^ k + a)) l * 2 ^ r ≡ b * 2 ^ (8 * n) + y =
-    ap (λ (z : ℕ). z * 2 ^ r) (ap (λ (z : ℕ). number z l) (omega arith) ∙ number-above (b * 2 ^ k + a) l)
+    let N : ℕ = fieldsNumber 0 l in
+    let y : ℕ = fieldsNumber (0 * 2 ^ k + a) l * 2 ^ r in
+    let g : fieldsNumber (0 * 2 ^ (8 + k) + (b * 2 ^ k + a)) l * 2 ^ r ≡ b * 2 ^ (8 * n) + y =
+    ap (λ (z : ℕ). z * 2 ^ r) (ap (λ (z : ℕ). fieldsNumber z l) (omega arith) ∙ number-above (b * 2 ^ k + a) l)
     ∙ regroup b a k B r N
-    ∙ ap₂ (λ (u v : ℕ). b * 2 ^ u + v) (omega arith) (ap (λ (z : ℕ). z * 2 ^ r) (sym (number-above a l) ∙ ap (λ (z : ℕ). number z l) (omega arith))) in
-    let u : y < 2 ^ (8 * n) = subst (λ (z : ℕ). z < 2 ^ (8 * n)) (ap (λ (z : ℕ). number z l * 2 ^ r) (omega arith)) (below (number a l) (k + B) (subst (λ (z : ℕ). z < 2 ^ (k + B)) (ap (λ (z : ℕ). number z l) (omega arith)) (number-lt ((k, a) ∷ l) (h, f)))) in
+    ∙ ap₂ (λ (u v : ℕ). b * 2 ^ u + v) (omega arith) (ap (λ (z : ℕ). z * 2 ^ r) (sym (number-above a l) ∙ ap (λ (z : ℕ). fieldsNumber z l) (omega arith))) in
+    let u : y < 2 ^ (8 * n) = subst (λ (z : ℕ). z < 2 ^ (8 * n)) (ap (λ (z : ℕ). fieldsNumber z l * 2 ^ r) (omega arith)) (below (fieldsNumber a l) (k + B) (subst (λ (z : ℕ). z < 2 ^ (k + B)) (ap (λ (z : ℕ). fieldsNumber z l) (omega arith)) (number-lt ((k, a) ∷ l) (h, f)))) in
     rw (d, c) (ap (λ (z : ℕ). bytesOf (suc n) z) g
     ∙ bytes-first n (b * 2 ^ (8 * n) + y)
     ∙ ap₂ (λ (z : ℕ) (t : List ℕ). z ∷ t) (ap (λ (z : ℕ). z % 256) (high b (8 * n) u) ∙ mod-eq-of-lt i) (bytes-low n b (b * 2 ^ (8 * n) + y) y refl))

@@ -13,7 +13,7 @@ use Rattle.payload.specs.Laws.{Words32}
 use Rattle.payload.specs.Mesh.{Mesh}
 use Rattle.payload.specs.MeshSpells.{meshType}
 use Rattle.payload.specs.MeshWrite.{boxSize, gap, isMesh, meshBody, meshBox, meshFields, submeshesFields, submeshesOf, tablesMesh, vertexFields}
-use Rattle.payload.specs.Packed.{Field, bits, number, packed, spare}
+use Rattle.payload.specs.Packed.{Field, bits, fieldsNumber, packed, spare}
 use Rattle.payload.specs.InternalWriting.{Advances, Ready, outcome, restFields}
 use Rattle.payload.specs.declared.mesh.write.BitWriter.{BitWriter}
 use Rattle.payload.proofs.BoxLaws.{mesh-fit}
@@ -34,14 +34,14 @@ module _ (x : Mesh) (h : Within x) (out : List ℕ) (fits : boxSize x ≤ length
   box-ready = record { few = omega arith; fits = (omega (arith, h .size), (omega arith, mesh-fit x h)); room = omega arith }
 
   box-done : outcome out start (boxFields x ++ []) ≡ sets out 0 (meshBox x)
-  unfolding meshBox meshBody bits number
+  unfolding meshBox meshBody bits fieldsNumber
   box-done =
       let l : List Field = meshFields x in
       let f = mesh-fit x h in
       let a : packed ((0, 0) ∷ boxFields x) ≡ packed ((8 * 4 + 0, boxSize x * 2 ^ 0 + 0) ∷ (32, meshType) ∷ l) =
-      packed-same ((0, 0) ∷ boxFields x) ((8 * 4 + 0, boxSize x * 2 ^ 0 + 0) ∷ (32, meshType) ∷ l) (omega arith) (ap (λ (v : ℕ). number (v * 2 ^ 32 + meshType) l) (omega arith)) in
+      packed-same ((0, 0) ∷ boxFields x) ((8 * 4 + 0, boxSize x * 2 ^ 0 + 0) ∷ (32, meshType) ∷ l) (omega arith) (ap (λ (v : ℕ). fieldsNumber (v * 2 ^ 32 + meshType) l) (omega arith)) in
       let b : packed ((0, 0) ∷ (32, meshType) ∷ l) ≡ packed ((8 * 4 + 0, meshType * 2 ^ 0 + 0) ∷ l) =
-      packed-same ((0, 0) ∷ (32, meshType) ∷ l) ((8 * 4 + 0, meshType * 2 ^ 0 + 0) ∷ l) (omega arith) (ap (λ (v : ℕ). number v l) (omega arith)) in
+      packed-same ((0, 0) ∷ (32, meshType) ∷ l) ((8 * 4 + 0, meshType * 2 ^ 0 + 0) ∷ l) (omega arith) (ap (λ (v : ℕ). fieldsNumber v l) (omega arith)) in
       let c : packed ((0, 0) ∷ l) ≡ packed l = packed-same ((0, 0) ∷ l) l (omega arith) refl in
       let p : packed ((0, 0) ∷ boxFields x) ≡ meshBox x =
       a ∙ packed-bytes 4 0 0 (boxSize x) ((32, meshType) ∷ l) (omega arith) (omega (arith, h .size)) (omega arith, f)

@@ -10,7 +10,7 @@ use Rattle.bits.specs.Field.{field}
 use Rattle.bits.proofs.VerdictLaws.{then-yes, then-no, mapped-value, mapped-declined}
 use Rattle.payload.specs.Mesh.{Submesh, Mesh}
 use Rattle.bits.specs.Run.{zeros, readRun}
-use Rattle.payload.specs.MeshSpells.{vertexCount}
+use Rattle.payload.specs.MeshSpells.{meshVertices}
 use Rattle.payload.specs.MeshRead.{many, readSubmesh, readWords, readMesh}
 use Rattle.payload.specs.MeshDrawing.{pointCount}
 use Rattle.payload.specs.Internal.{WasRead, runNumbers, submeshesRead, meshRead, bodySize}
@@ -142,7 +142,7 @@ module _ (s : List ℕ) where
       let v = mapped-value bodySize (readMesh s) (m, k, j) e in
       let x = v .0 .0 in
       let S = mesh-spells s x (v .0 .1) (v .1) in
-      let i : vertexCount x ≡ m = ap (λ (y : ℕ × ℕ × ℕ). y .0) (v .2) in
+      let i : meshVertices x ≡ m = ap (λ (y : ℕ × ℕ × ℕ). y .0) (v .2) in
       let f : length (x .submeshes) ≡ k = ap (λ (y : ℕ × ℕ × ℕ). y .1) (v .2) in
       let g : pointCount (x .submeshes) ≡ j = ap (λ (y : ℕ × ℕ × ℕ). y .2) (v .2) in
       let z = lengths-of x n (a ∙ S .pool-count) (omega (arith, S .fives)) (omega (arith, rows-length (x .submeshes))) (d ∙ sym g ∙ sym (points-length (x .submeshes))) in

@@ -14,7 +14,7 @@ use Rattle.bits.specs.Put.{bitsPut, bytesOf, fieldPut}
 use Rattle.bits.proofs.ByteLaws.{length-bytes}
 use Rattle.bits.proofs.FieldLaws.{field-zero}
 use Rattle.bits.proofs.PutLaws.{cat-lt, field-put-yes}
-use Rattle.payload.specs.Packed.{Field, Fits, bits, number, packed, spare}
+use Rattle.payload.specs.Packed.{Field, Fits, bits, fieldsNumber, packed, spare}
 use Rattle.payload.specs.InternalWriting.{Advances, Ready, outcome, waiting}
 use Rattle.payload.specs.declared.mesh.write.BitWriter.{BitWriter}
 use Rattle.payload.proofs.FillLaws.{sets-append}
@@ -205,7 +205,7 @@ put-four-sets out at x h = four-sets out at _ _ _ _ ∙ ap (sets out at) (sym (f
 -- ---- the end
 
 pub finish-is : (out : List ℕ) (from : BitWriter) → Ready out from [] → fieldPut out (8 * from .at) (from .bits) (from .held % 2 ^ 32) ≡ outcome out from []
-unfolding bits number packed bitsPut
+unfolding bits fieldsNumber packed bitsPut
 finish-is out from r =
     let p : ℕ = 8 * from .at in
     let k : ℕ = from .bits in

@@ -23,6 +23,6 @@ filledSays (F.Declined k) = declined (k)
 abbrev pub bothLengths : Verdict (List ℕ) → Verdict (List ℕ) → Verdict (ℕ × ℕ)
 bothLengths v w = andThen v (λ l. mapped (λ m. (length l, length m)) w)
 
-abbrev pub lengthsSaid : GridLengths → Verdict (ℕ × ℕ)
-lengthsSaid (G.Lengths n f) = accepted (n, f)
-lengthsSaid (G.Declined k) = declined k
+abbrev pub gridLengthsSays : GridLengths → Verdict (ℕ × ℕ)
+gridLengthsSays (G.Lengths n f) = accepted (n, f)
+gridLengthsSays (G.Declined k) = declined k

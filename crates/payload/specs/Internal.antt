@@ -11,7 +11,7 @@ use Rattle.bits.specs.Number.{widthOf}
 use Rattle.payload.specs.Mesh.{Submesh, Mesh}
 use Rattle.bits.specs.Run.{zeros, Found, readRun, summed}
 use Rattle.bits.specs.declared.fields.runs.Run.{Run}
-use Rattle.payload.specs.MeshSpells.{vertexCount, part, meshType, aligned, verticesAt}
+use Rattle.payload.specs.MeshSpells.{meshVertices, part, meshType, aligned, verticesAt}
 use Rattle.payload.specs.MeshRead.{readMesh, readFrom}
 use Rattle.payload.specs.MeshDrawing.{pointCount, pointTotal, drawnNumbers, drawnFloats, recordsFrom}
 use Rattle.payload.specs.declared.mesh.Head.{Head}
@@ -85,7 +85,7 @@ submeshesSays (S.Declined k) = declined k
 
 -- a mesh's vertices, submeshes and points
 abbrev pub bodySize : Mesh × ℕ → ℕ × ℕ × ℕ
-bodySize x = (vertexCount (x .0), length (x .0 .submeshes), pointCount (x .0 .submeshes))
+bodySize x = (meshVertices (x .0), length (x .0 .submeshes), pointCount (x .0 .submeshes))
 
 abbrev pub bodySays : BodySize → Verdict (ℕ × ℕ × ℕ)
 bodySays (B.Size m k n) = accepted (m, k, n)
@@ -99,7 +99,7 @@ abbrev pub withMesh : Totals → Mesh → Totals
 withMesh t x =
     record {
       meshes = t .meshes + 1;
-      coordinates = t .coordinates + 5 * vertexCount x;
+      coordinates = t .coordinates + 5 * meshVertices x;
       submeshes = t .submeshes + length (x .submeshes);
       points = t .points + pointCount (x .submeshes);
     }

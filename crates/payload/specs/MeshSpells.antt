@@ -39,8 +39,8 @@ SubmeshesSpell s w m p l = EachSpells (submeshBits w) (SubmeshSpells s w m) p l
 
 -- ---- a mesh body
 
-abbrev pub vertexCount : Mesh → ℕ
-vertexCount x = length (x .vertices) / 5
+abbrev pub meshVertices : Mesh → ℕ
+meshVertices x = length (x .vertices) / 5
 
 -- the next byte boundary
 abbrev pub aligned : ℕ → ℕ
@@ -58,7 +58,7 @@ submeshesAt x = aligned (verticesEnd x)
 
 -- where its last field ends
 abbrev pub submeshesEnd : Mesh → ℕ
-submeshesEnd x = submeshesAt x + 32 + sizes (submeshBits (widthOf (vertexCount x))) (x .submeshes)
+submeshesEnd x = submeshesAt x + 32 + sizes (submeshBits (widthOf (meshVertices x))) (x .submeshes)
 
 -- coordinate count n, n words, vertex count m; m * 5 fields of width w(n); free bits to the next byte boundary, submesh
 -- count, submeshes
@@ -68,17 +68,17 @@ pub record MeshSpells (s : List ℕ) (x : Mesh) : Type 0 where
   pub pool-some : 1 ≤ length (x .pool)
   pub pool-most : length (x .pool) ≤ 10000
   pub pool-words : (i : ℕ) → i < length (x .pool) → field s (32 + i * 32) 32 ≡ getD (x .pool) i 0
-  pub fives : length (x .vertices) ≡ 5 * vertexCount x
-  pub vertex-count : field s (32 * length (x .pool) + 32) 32 ≡ vertexCount x
-  pub vertex-some : 1 ≤ vertexCount x
-  pub vertex-most : vertexCount x ≤ 32000
+  pub fives : length (x .vertices) ≡ 5 * meshVertices x
+  pub vertex-count : field s (32 * length (x .pool) + 32) 32 ≡ meshVertices x
+  pub vertex-some : 1 ≤ meshVertices x
+  pub vertex-most : meshVertices x ≤ 32000
   pub vertices-run : RunSpells s (widthOf (length (x .pool))) (length (x .pool)) (verticesAt (length (x .pool)))
       (zeros 5)
       (x .vertices)
   pub tail : submeshesAt x + 32 ≤ 8 * length s
   pub submesh-count : field s (submeshesAt x) 32 ≡ length (x .submeshes)
   pub submesh-some : 1 ≤ length (x .submeshes)
-  pub submeshes-run : SubmeshesSpell s (widthOf (vertexCount x)) (vertexCount x) (submeshesAt x + 32) (x .submeshes)
+  pub submeshes-run : SubmeshesSpell s (widthOf (meshVertices x)) (meshVertices x) (submeshesAt x + 32) (x .submeshes)
 
 -- ---- a list of boxes
 

@@ -9,7 +9,7 @@ use Rattle.bits.specs.Number.{widthOf}
 use Rattle.bits.specs.Put.{bytesOf}
 use Rattle.payload.specs.Mesh.{Submesh, Mesh}
 use Rattle.bits.specs.Run.{zeros, shift}
-use Rattle.payload.specs.MeshSpells.{vertexCount, meshType}
+use Rattle.payload.specs.MeshSpells.{meshVertices, meshType}
 use Rattle.payload.specs.Packed.{Field, bits, spare, packed}
 
 -- ---- the fields of a mesh, in the layout's order
@@ -44,13 +44,13 @@ gap n = (spare n, 0)
 unfoldable pub vertexFields : Mesh → List Field
 vertexFields x =
     (32, length (x .pool)) ∷ wordFields (x .pool)
-    ++ ((32, vertexCount x) ∷ runFields (widthOf (length (x .pool))) (zeros 5) (x .vertices))
+    ++ ((32, meshVertices x) ∷ runFields (widthOf (length (x .pool))) (zeros 5) (x .vertices))
 
 unfoldable pub meshFields : Mesh → List Field
 meshFields x =
     vertexFields x
     ++ (gap (bits (vertexFields x)) ∷ (32, length (x .submeshes))
-    ∷ submeshesFields (widthOf (vertexCount x)) (x .submeshes))
+    ∷ submeshesFields (widthOf (meshVertices x)) (x .submeshes))
 
 -- its bytes; the size of its box, and the box: size, 'mesh', body
 unfoldable pub meshBody : Mesh → List ℕ

@@ -15,9 +15,9 @@ bits [] = 0
 bits ((w, v) ∷ l) = w + bits l
 
 -- the number that their bits make, after those that made `before`
-unfoldable pub number : ℕ → List Field → ℕ
-number before [] = before
-number before ((w, v) ∷ l) = number (before * 2 ^ w + v) l
+unfoldable pub fieldsNumber : ℕ → List Field → ℕ
+fieldsNumber before [] = before
+fieldsNumber before ((w, v) ∷ l) = fieldsNumber (before * 2 ^ w + v) l
 
 -- how many bits are missing to whole bytes
 abbrev pub spare : ℕ → ℕ
@@ -25,7 +25,7 @@ spare n = (n + 7) / 8 * 8 - n
 
 -- the bytes: the fields one after the other, then zero bits to the end of the last byte
 unfoldable pub packed : List Field → List ℕ
-packed l = bytesOf ((bits l + 7) / 8) (number 0 l * 2 ^ spare (bits l))
+packed l = bytesOf ((bits l + 7) / 8) (fieldsNumber 0 l * 2 ^ spare (bits l))
 
 -- each value fits its width
 abbrev pub Fits : List Field → Type 0

@@ -52,9 +52,9 @@ tableLengths x =
 abbrev pub bodyRead : List ℕ → Verdict Mesh
 bodyRead s = limited s (mapped (λ x. x .0) (readMesh s))
 
-abbrev pub lengthsSays : MeshMeasured → Verdict TableLengths
-lengthsSays (M.Lengths n) = accepted n
-lengthsSays (M.Declined k) = declined k
+abbrev pub tableLengthsSays : MeshMeasured → Verdict TableLengths
+tableLengthsSays (M.Lengths n) = accepted n
+tableLengthsSays (M.Declined k) = declined k
 
 -- ---- reading a body into four buffers
 

@@ -10,7 +10,7 @@ ghost use mathlib.Core.List.{[], _∷_};
 ghost use lib.ListN.{length};
 ghost use lib.Seq.{sets};
 ghost use lib.Ieee.Scale.{finite};
-ghost use Rattle.payload.specs.Fill.{filledSays, bothLengths, lengthsSaid};
+ghost use Rattle.payload.specs.Fill.{filledSays, bothLengths, gridLengthsSays};
 ghost use Rattle.payload.specs.Lent.{inItems, answerFor, buffersAfter, atEntry};
 ghost use Rattle.payload.specs.Float.{ratio};
 ghost use Rattle.payload.specs.Cube.{cellsUsable, shareUsable, cubeRow, cubeFace, cubeTriangles, cubeNumbers};
@@ -280,7 +280,7 @@ pub fn cubemap_mesh(cells: u32, radius: f32, padding: f32, out: &mut [u32]) -> F
 
 // How long the numbers and the vertices' floats are: 9, 11, or both lengths.
 pub fn cubemap_lengths(cells: u32, radius: f32, padding: f32) -> GridLengths
-    ensures { λ r. ⌜ lengthsSaid r ≡ bothLengths (cubeNumbers cells) (cubeFloats cells radius padding) ⌝ }
+    ensures { λ r. ⌜ gridLengthsSays r ≡ bothLengths (cubeNumbers cells) (cubeFloats cells radius padding) ⌝ }
 {
     if !cells_usable(cells) {
         return GridLengths::Declined(9);

@@ -11,7 +11,7 @@ ghost use mathlib.Core.List.{[], _∷_};
 ghost use lib.ListN.{length};
 ghost use lib.Seq.{sets};
 ghost use Rattle.bits.specs.Float.{bitsOf};
-ghost use Rattle.payload.specs.Fill.{each, filledSays, bothLengths, lengthsSaid};
+ghost use Rattle.payload.specs.Fill.{each, filledSays, bothLengths, gridLengthsSays};
 ghost use Rattle.payload.specs.Lent.{inItems, answerFor, buffersAfter, atEntry};
 ghost use Rattle.payload.specs.Float.{f1, _⊖_, ratio};
 ghost use Rattle.payload.specs.Crop.{full};
@@ -216,7 +216,7 @@ pub fn sphere_uvs(rings: u32, sectors: u32, out: &mut [u32]) -> Filled
 
 // How long the numbers and the texture coordinates of the covered patch are: 9, 10, or both lengths.
 pub fn sphere_lengths(rings: u32, sectors: u32, bounds: Bounds) -> GridLengths
-    ensures { λ r. ⌜ lengthsSaid r ≡ bothLengths (sphereNumbers rings sectors bounds) (sphereUvs rings sectors) ⌝ }
+    ensures { λ r. ⌜ gridLengthsSays r ≡ bothLengths (sphereNumbers rings sectors bounds) (sphereUvs rings sectors) ⌝ }
 {
     if !grid_usable(rings, sectors) {
         return GridLengths::Declined(9);

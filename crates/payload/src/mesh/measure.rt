@@ -17,7 +17,7 @@ ghost use Rattle.payload.specs.Internal.{SubmeshPlace, pointsEnd, submes
 ghost use Rattle.payload.specs.Internal.{boxTotals, noTotals, totalsOf, submeshSays, submeshesSays, bodySays};
 ghost use Rattle.payload.specs.Internal.{totalsSays};
 ghost use Rattle.payload.specs.Meshes.{listSize, measuredSays};
-ghost use Rattle.payload.specs.Tables.{tableLengths, bodyRead, lengthsSays};
+ghost use Rattle.payload.specs.Tables.{tableLengths, bodyRead, tableLengthsSays};
 
 // How much there is of a mesh list: its meshes, submeshes and points, and the lengths of its drawing's three lists.
 pub struct MeshListSize {
@@ -97,7 +97,7 @@ fn check_submeshes(s: &[u8], p: usize, w: usize, m: u32, count: u32) -> Submeshe
 }
 
 // The submesh count at bit p, and the submeshes.
-fn check_counted(s: &[u8], p: usize, w: usize, m: u32) -> SubmeshesSize
+fn check_submesh_list(s: &[u8], p: usize, w: usize, m: u32) -> SubmeshesSize
     requires { ⌜ SubmeshPlace (now s) w m p ⌝ }
     ensures { λ r. ⌜ submeshesSays r ≡ mapped submeshesSize (readSubmeshes (now (s .entry)) w m p) ⌝ }
 {
@@ -119,7 +119,7 @@ enum BodySize {
 }
 
 // From the vertices on, of which there are m, over n coordinates.
-fn check_vertices_on(s: &[u8], n: u32, m: u32) -> BodySize
+fn check_from_vertices(s: &[u8], n: u32, m: u32) -> BodySize
     requires { ⌜ (length (now s) ≤ 67108864) × (1 ≤ n) × (n ≤ 10000) × (1 ≤ m) × (m ≤ 32000)
         × (32 * n + 64 ≤ 8 * length (now s)) ⌝ }
     ensures { λ r. ⌜ bodySays r ≡ mapped bodySize (afterCounts (now (s .entry)) n m) ⌝ }
@@ -135,7 +135,7 @@ fn check_vertices_on(s: &[u8], n: u32, m: u32) -> BodySize
         RunCheck::Good => {
             let end = start + 5 * (m as usize) * (bits::bit_width(n) as usize);
             let v = bits::bit_width(m) as usize;
-            match check_counted(s, (end + 7) / 8 * 8, v, m) {
+            match check_submesh_list(s, (end + 7) / 8 * 8, v, m) {
                 SubmeshesSize::Declined(k) => BodySize::Declined(k),
                 SubmeshesSize::Size(count, points) => BodySize::Size(m, count, points),
             }
@@ -170,7 +170,7 @@ fn check_mesh(s: &[u8]) -> BodySize
     if 32_000 < m {
         return BodySize::Declined(7);
     }
-    check_vertices_on(s, n, m)
+    check_from_vertices(s, n, m)
 }
 
 // What was counted of a list so far.
@@ -285,7 +285,7 @@ pub enum MeshMeasured {
 
 // Measures a mesh body: 2, then 3, 7 and 8 in field order.
 pub fn measure_mesh(body: &[u8]) -> MeshMeasured
-    ensures { λ r. ⌜ lengthsSays r ≡ mapped tableLengths (bodyRead (now (body .entry))) ⌝ }
+    ensures { λ r. ⌜ tableLengthsSays r ≡ mapped tableLengths (bodyRead (now (body .entry))) ⌝ }
 {
     if 67_108_864 < body.len() {
         return MeshMeasured::Declined(2);

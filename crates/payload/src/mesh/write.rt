@@ -102,7 +102,7 @@ fn put_words(out: &mut [u8], from: BitWriter, words: &[u32]) -> BitWriter
 }
 
 // The number stride places before the one at i; a run starts with zeros.
-fn before(ns: &[u16], stride: usize, i: usize) -> u16
+fn previous(ns: &[u16], stride: usize, i: usize) -> u16
     requires { ⌜ i < length (now ns) ⌝ }
     ensures { λ r. ⌜ r ≡ getD (zeros stride ++ now (ns .entry)) i 0 ⌝ }
 {
@@ -122,7 +122,7 @@ fn put_run(out: &mut [u8], from: BitWriter, width: usize, stride: usize, ns: &[u
     let mut to = from;
     let mut i = 0;
     while i < ns.len() {
-        to = put(out, to, width, step_field(before(ns, stride, i), ns[i]));
+        to = put(out, to, width, step_field(previous(ns, stride, i), ns[i]));
         i += 1;
     }
     to
@@ -195,7 +195,13 @@ fn put_vertices(out: &mut [u8], from: BitWriter, pool: &[u32], coordinates: &[u1
 }
 
 // Zero bits to the next byte, submesh count and submeshes, whose points are among m vertices.
-fn put_rest(out: &mut [u8], from: BitWriter, m: usize, rows: &[u32], points: &[u16]) -> BitWriter
+fn put_submesh_list(
+    out: &mut [u8],
+    from: BitWriter,
+    m: usize,
+    rows: &[u32],
+    points: &[u16],
+) -> BitWriter
     requires { ⌜ Ready (now out) from (restFields (from .bits) m (submeshesOf (now rows) (now points))) ⌝ }
     requires { ⌜ m ≤ 32000 ⌝ }
     requires { ⌜ rowsFit (now rows) (length (now points)) ≡ true ⌝ }
@@ -232,7 +238,7 @@ fn put_box(
     let a = put(out, start, 32, size as u32);
     let b = put(out, a, 32, MESH);
     let c = put_vertices(out, b, pool, coordinates);
-    let d = put_rest(out, c, coordinates.len() / 5, rows, points);
+    let d = put_submesh_list(out, c, coordinates.len() / 5, rows, points);
     finish(out, d);
 }
 

@@ -70,8 +70,8 @@ returns-6 c =
     let m = rw z at (c .before .before .word2 .ensures) in
     sym (ap (mapped bodySize) (on ∙ pool-high (a .s .now) (n .result) (omega arith) (omega arith)))
 
-check-vertices-on-requires : tie.Need-check-vertices-on-requires
-check-vertices-on-requires c κs = search needs
+check-from-vertices-requires : tie.Need-check-from-vertices-requires
+check-from-vertices-requires c κs = search needs
 
 returns-7 : tie.Need-returns-7
 returns-7 c =
@@ -80,7 +80,7 @@ returns-7 c =
     let on = mesh-on (a .s .now) (n .result) (omega arith) (sym (n .ensures)) (omega arith) (omega arith) in
     let z : 8 * (4 * n .result + 4) ≡ 32 * n .result + 32 = omega arith in
     let m = rw z at (c .before .before .before .word2 .ensures) in
-    c .check-vertices-on .ensures ∙ sym (ap (mapped bodySize) (on ∙ pool-on (a .s .now) (n .result) (c .before .before .before .word2 .result) (omega arith) (sym m) (omega arith) (omega arith)))
+    c .check-from-vertices .ensures ∙ sym (ap (mapped bodySize) (on ∙ pool-on (a .s .now) (n .result) (c .before .before .before .word2 .result) (omega arith) (sym m) (omega arith) (omega arith)))
 
 pub check-mesh-spec : {M : Type 1} → statement M
 check-mesh-spec =
@@ -101,5 +101,5 @@ check-mesh-spec =
     word-requires-2
     returns-5
     returns-6
-    check-vertices-on-requires
+    check-from-vertices-requires
     returns-7)

@@ -5,7 +5,7 @@ use Prim.Native.Nat.{ℕ}
 use lib.ListN.{length}
 use Rattle.bits.specs.Verdict.{accepted, mapped}
 use Rattle.bits.proofs.VerdictLaws.{mapped-declined}
-use Rattle.payload.specs.Tables.{tableLengths, bodyRead, lengthsSays, tablesOf, tablesPlan}
+use Rattle.payload.specs.Tables.{tableLengths, bodyRead, tableLengthsSays, tablesOf, tablesPlan}
 use Rattle.payload.specs.Internal.{meshRead}
 use Rattle.payload.specs.declared.mesh.measure.TableLengths.{TableLengths}
 use Rattle.payload.proofs.LentLaws.{Room, refused, enough, too-short, all-stored}
@@ -31,7 +31,7 @@ module _ (m : tie.After-n) where
   lengths = size .pool ∷ size .coordinates ∷ size .submeshes ∷ size .points ∷ []
 
   known : BodyKnown s size
-  known = body-known s size (ap lengthsSays (sym (m .n .given .1)) ∙ m .before .before .measure-mesh .ensures)
+  known = body-known s size (ap tableLengthsSays (sym (m .n .given .1)) ∙ m .before .before .measure-mesh .ensures)
 
   planned : tablesPlan s ≡ accepted (tablesOf (meshRead s))
   planned = ap (mapped tablesOf) (known .is)
@@ -90,7 +90,7 @@ returns c =
 returns-2 : tie.Need-returns-2
 returns-2 c =
     let a = c .before .before .before .before .before .before .before .before .before .args in
-    let e = ap lengthsSays (sym (c .before .k .given .1)) ∙ c .before .before .before .measure-mesh .ensures in
+    let e = ap tableLengthsSays (sym (c .before .k .given .1)) ∙ c .before .before .before .measure-mesh .ensures in
     refused (tablesPlan (a .body .now))
     (a .pool .now ∷ a .coordinates .now ∷ a .submeshes .now ∷ a .points .now ∷ []) _
     (ap (mapped tablesOf) (mapped-declined tableLengths (bodyRead (a .body .now)) _ e))

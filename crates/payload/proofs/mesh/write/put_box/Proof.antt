@@ -38,8 +38,8 @@ put-vertices-requires c κs =
     let w = on-first _ _ (on-first _ _ (on-start (start-ready (a .pool .now) (a .coordinates .now) (a .rows .now) (a .points .now) (a .out .now) (a .size) (s .pre .0) (s .pre .1 .0) (s .pre .1 .1) words)) (c .before .before .before .before .before .before .before .put .ensures)) (c .before .before .before .put2 .ensures) in
     (head-ready _ _ (w .0), told (a .pool .now) (a .coordinates .now) (a .rows .now) (a .points .now) (s .pre .0) .pool-most)
 
-put-rest-requires : tie.Need-put-rest-requires
-put-rest-requires c κs =
+put-submesh-list-requires : tie.Need-put-submesh-list-requires
+put-submesh-list-requires c κs =
     let s = c .before .before .before .before .before .before .before .before .before .before .before .before .before .before .before .before .before .before in
     let a = s .args in
     let words : Words32 (a .pool .now) = λ k. c .before .before .before .before .before .before .before .before .before .before .before .before .before .before .before .before .before .shared-slice-known .given k .fits in
@@ -52,7 +52,7 @@ finish-requires c κs =
     let s = c .before .before .before .before .before .before .before .before .before .before .before .before .before .before .before .before .before .before .before .before .before .before in
     let a = s .args in
     let words : Words32 (a .pool .now) = λ k. c .before .before .before .before .before .before .before .before .before .before .before .before .before .before .before .before .before .before .before .before .before .shared-slice-known .given k .fits in
-    let w = on-step _ _ (with-nil (rest-here (a .pool .now) (a .coordinates .now) (a .rows .now) (a .points .now) (a .out .now) (a .size) (s .pre .0) (s .pre .1 .0) (s .pre .1 .1) words (on-step _ _ (on-first _ _ (on-first _ _ (on-start (start-ready (a .pool .now) (a .coordinates .now) (a .rows .now) (a .points .now) (a .out .now) (a .size) (s .pre .0) (s .pre .1 .0) (s .pre .1 .1) words)) (c .before .before .before .before .before .before .before .before .before .before .before .before .before .before .before .put .ensures)) (c .before .before .before .before .before .before .before .before .before .before .before .put2 .ensures)) (c .before .before .before .before .before .before .before .put-vertices .ensures)))) (c .before .before .before .put-rest .ensures) in
+    let w = on-step _ _ (with-nil (rest-here (a .pool .now) (a .coordinates .now) (a .rows .now) (a .points .now) (a .out .now) (a .size) (s .pre .0) (s .pre .1 .0) (s .pre .1 .1) words (on-step _ _ (on-first _ _ (on-first _ _ (on-start (start-ready (a .pool .now) (a .coordinates .now) (a .rows .now) (a .points .now) (a .out .now) (a .size) (s .pre .0) (s .pre .1 .0) (s .pre .1 .1) words)) (c .before .before .before .before .before .before .before .before .before .before .before .before .before .before .before .put .ensures)) (c .before .before .before .before .before .before .before .before .before .before .before .put2 .ensures)) (c .before .before .before .before .before .before .before .put-vertices .ensures)))) (c .before .before .before .put-submesh-list .ensures) in
     (w .0, end-at (a .pool .now) (a .coordinates .now) (a .rows .now) (a .points .now) (a .out .now) (a .size) (s .pre .0) (s .pre .1 .0) (s .pre .1 .1) words w)
 
 same-length : tie.Need-same-length
@@ -63,7 +63,7 @@ returns c =
     let s = c .before .before .before .before .before .before .before .before .before .before .before .before .before .before .before .before .before .before .before .before .before .before .before .before .before in
     let a = s .args in
     let words : Words32 (a .pool .now) = λ k. c .before .before .before .before .before .before .before .before .before .before .before .before .before .before .before .before .before .before .before .before .before .before .before .before .shared-slice-known .given k .fits in
-    let w = on-step _ _ (with-nil (rest-here (a .pool .now) (a .coordinates .now) (a .rows .now) (a .points .now) (a .out .now) (a .size) (s .pre .0) (s .pre .1 .0) (s .pre .1 .1) words (on-step _ _ (on-first _ _ (on-first _ _ (on-start (start-ready (a .pool .now) (a .coordinates .now) (a .rows .now) (a .points .now) (a .out .now) (a .size) (s .pre .0) (s .pre .1 .0) (s .pre .1 .1) words)) (c .before .before .before .before .before .before .before .before .before .before .before .before .before .before .before .before .before .before .put .ensures)) (c .before .before .before .before .before .before .before .before .before .before .before .before .before .before .put2 .ensures)) (c .before .before .before .before .before .before .before .before .before .before .put-vertices .ensures)))) (c .before .before .before .before .before .before .put-rest .ensures) in
+    let w = on-step _ _ (with-nil (rest-here (a .pool .now) (a .coordinates .now) (a .rows .now) (a .points .now) (a .out .now) (a .size) (s .pre .0) (s .pre .1 .0) (s .pre .1 .1) words (on-step _ _ (on-first _ _ (on-first _ _ (on-start (start-ready (a .pool .now) (a .coordinates .now) (a .rows .now) (a .points .now) (a .out .now) (a .size) (s .pre .0) (s .pre .1 .0) (s .pre .1 .1) words)) (c .before .before .before .before .before .before .before .before .before .before .before .before .before .before .before .before .before .before .put .ensures)) (c .before .before .before .before .before .before .before .before .before .before .before .before .before .before .put2 .ensures)) (c .before .before .before .before .before .before .before .before .before .before .put-vertices .ensures)))) (c .before .before .before .before .before .before .put-submesh-list .ensures) in
     c .before .before .finish .ensures ∙ box-is (a .pool .now) (a .coordinates .now) (a .rows .now) (a .points .now) (a .out .now) (a .size) (s .pre .0) (s .pre .1 .0) (s .pre .1 .1) words w
 
 pub put-box-spec : {M : Type 1} → statement M
@@ -74,7 +74,7 @@ put-box-spec =
     put-requires
     put-requires-2
     put-vertices-requires
-    put-rest-requires
+    put-submesh-list-requires
     finish-requires
     same-length
     returns)

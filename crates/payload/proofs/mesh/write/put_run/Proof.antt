@@ -22,8 +22,8 @@ loop-holds c =
     let a = c .before .before .args in
     (omega arith, rw (← run-coded (a .width) (zeros (a .stride)) (a .ns .now) (zeros-some (a .stride) (c .before .before .pre .1 .1))) (on-start (c .before .before .pre .0)))
 
-before-requires : tie.Need-before-requires Inv-loop μ-loop
-before-requires c κs = search needs
+previous-requires : tie.Need-previous-requires Inv-loop μ-loop
+previous-requires c κs = search needs
 
 mul-step-field : tie.Need-mul-step-field Inv-loop μ-loop
 mul-step-field c = search needs
@@ -40,7 +40,7 @@ put-requires c κs =
     let a = s .args in
     let l = c .before .before .before .before .before .loop in
     let h = c .before .before .before .before .loop-test .taken in
-    let e = run-next (a .width) (zeros (a .stride) ++ a .ns .now) (a .ns .now) (l .i) (c .step-field .result) (c .before .before .before2 .result) (rw (past-long (a .stride) (a .ns .now)) (omega (arith, h))) h (c .before .before .before2 .ensures) (c .step-field .ensures) in
+    let e = run-next (a .width) (zeros (a .stride) ++ a .ns .now) (a .ns .now) (l .i) (c .step-field .result) (c .before .before .previous .result) (rw (past-long (a .stride) (a .ns .now)) (omega (arith, h))) h (c .before .before .previous .ensures) (c .step-field .ensures) in
     (first-ready _ _ (rw e at (l .inv .1 .0)), s .pre .1 .0)
 
 add-i : tie.Need-add-i Inv-loop μ-loop
@@ -55,7 +55,7 @@ loop-again c =
     let a = c .before .before .before .before .before .before .before .before .before .before .before .args in
     let l = c .before .before .before .before .before .before .before .before .loop in
     let h = c .before .before .before .before .before .before .before .loop-test .taken in
-    let e = run-next (a .width) (zeros (a .stride) ++ a .ns .now) (a .ns .now) (l .i) (d .step-field .result) (c .before .before .before .before .before .before2 .result) (rw (past-long (a .stride) (a .ns .now)) (omega (arith, h))) h (c .before .before .before .before .before .before2 .ensures) (d .step-field .ensures) in
+    let e = run-next (a .width) (zeros (a .stride) ++ a .ns .now) (a .ns .now) (l .i) (d .step-field .result) (c .before .before .before .before .before .previous .result) (rw (past-long (a .stride) (a .ns .now)) (omega (arith, h))) h (c .before .before .before .before .before .previous .ensures) (d .step-field .ensures) in
     (omega arith, on-first _ _ (rw e at (l .inv .1)) (c .before .before .put .ensures))
 
 same-length : tie.Need-same-length Inv-loop μ-loop
@@ -74,7 +74,7 @@ put-run-spec =
     Inv-loop
     μ-loop
     loop-holds
-    before-requires
+    previous-requires
     mul-step-field
     shared-slice-read-step-field
     step-field-requires

@@ -1,10 +1,10 @@
--- `put_rest` meets its contract: three parts, one after the other. Assumes nothing.
+-- `put_submesh_list` meets its contract: three parts, one after the other. Assumes nothing.
 use native.Mathlib.Omega.{arith}
 use borrow.Author.Needs.{needs}
 use Rattle.payload.proofs.RowLaws.{rows-count, width-fits}
 use Rattle.payload.proofs.WriterLaws.{first-ready, on-first, on-last, on-start}
-use Rattle.payload.proofs.mesh.write.put_rest.Statement.{statement}
-use Rattle.payload.proofs.mesh.write.put_rest.Tie as tie
+use Rattle.payload.proofs.mesh.write.put_submesh_list.Statement.{statement}
+use Rattle.payload.proofs.mesh.write.put_submesh_list.Tie as tie
 
 cast-bit-width : tie.Need-cast-bit-width
 cast-bit-width c = search needs
@@ -50,8 +50,8 @@ returns c =
     let w = on-first _ _ (on-first _ _ (on-start (s .pre .0)) (c .before .before .before .before .before .before .before .before .before .before .put .ensures)) (rw (← rows-count (s .args .rows .now) (s .args .points .now) (s .pre .1 .1)) at (c .before .before .before .before .before .before .put2 .ensures)) in
     on-last w (rw (c .before .before .before .before .before .before .before .before .before .before .before .before .bit-width .ensures) at (c .before .before .put-submeshes .ensures))
 
-pub put-rest-spec : {M : Type 1} → statement M
-put-rest-spec =
+pub put-submesh-list-spec : {M : Type 1} → statement M
+put-submesh-list-spec =
     tie.close
     (tie.spec
     cast-bit-width

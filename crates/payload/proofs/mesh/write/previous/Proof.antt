@@ -1,8 +1,8 @@
--- `before` meets its contract. Assumes nothing.
+-- `previous` meets its contract. Assumes nothing.
 use borrow.Author.Needs.{needs}
 use Rattle.payload.proofs.PutRunLaws.{before-later, before-start}
-use Rattle.payload.proofs.mesh.write.before.Statement.{statement}
-use Rattle.payload.proofs.mesh.write.before.Tie as tie
+use Rattle.payload.proofs.mesh.write.previous.Statement.{statement}
+use Rattle.payload.proofs.mesh.write.previous.Tie as tie
 
 returns : tie.Need-returns
 returns c = let a = c .before .args in before-start (a .stride) (a .i) (a .ns .now) (c .if1 .taken)
@@ -16,5 +16,5 @@ shared-slice-read-result c = search needs
 returns-2 : tie.Need-returns-2
 returns-2 c = let a = c .before .before .args in before-later (a .stride) (a .i) (a .ns .now) (c .before .if1 .left)
 
-pub before-spec : {M : Type 1} → statement M
-before-spec = tie.close (tie.spec returns mul-result shared-slice-read-result returns-2)
+pub previous-spec : {M : Type 1} → statement M
+previous-spec = tie.close (tie.spec returns mul-result shared-slice-read-result returns-2)

@@ -1,4 +1,4 @@
--- `check_vertices_on` meets its contract: its answer is that on the vertices, and then that on the submeshes. Assumes nothing.
+-- `check_from_vertices` meets its contract: its answer is that on the vertices, and then that on the submeshes. Assumes nothing.
 use borrow.Author.Needs.{needs}
 use Prim.Native.Nat.{_+_, _*_, _≤_}
 use mathlib.Core.Path.{_≡_, sym, ap, _∙_}
@@ -10,8 +10,8 @@ use Rattle.bits.specs.Run.{zeros, readRun, judged, checkSays}
 use Rattle.payload.specs.MeshSpells.{verticesAt}
 use Rattle.payload.specs.Internal.{submeshesSays}
 use Rattle.payload.proofs.CheckLaws.{run-told, vertices-declined, vertices-end, body-says}
-use Rattle.payload.proofs.mesh.measure.check_vertices_on.Statement.{statement}
-use Rattle.payload.proofs.mesh.measure.check_vertices_on.Tie as tie
+use Rattle.payload.proofs.mesh.measure.check_from_vertices.Statement.{statement}
+use Rattle.payload.proofs.mesh.measure.check_from_vertices.Tie as tie
 
 mul-start : tie.Need-mul-start
 mul-start c = search needs
@@ -69,14 +69,14 @@ bit-width-requires-2 c κs = search needs
 cast-v : tie.Need-cast-v
 cast-v c = search needs
 
-add-check-counted : tie.Need-add-check-counted
-add-check-counted c = omega (arith, run-end (c .before))
+add-check-submesh-list : tie.Need-add-check-submesh-list
+add-check-submesh-list c = omega (arith, run-end (c .before))
 
-mul-check-counted : tie.Need-mul-check-counted
-mul-check-counted c = omega (arith, run-end (c .before))
+mul-check-submesh-list : tie.Need-mul-check-submesh-list
+mul-check-submesh-list c = omega (arith, run-end (c .before))
 
-check-counted-requires : tie.Need-check-counted-requires
-check-counted-requires c κs =
+check-submesh-list-requires : tie.Need-check-submesh-list-requires
+check-submesh-list-requires c κs =
     let e = c .before .before .before .before .before .before in
     let r = run-end (c .before) in
     record { short = omega (arith, e .pre); wide = c .bit-width2 .ensures; some = omega (arith, e .pre); most = omega (arith, e .pre); low = omega arith; inside = omega (arith, e .pre) }
@@ -98,17 +98,17 @@ returns-2 c =
     let d = c .before .before .before in
     let b = d .before .before in
     let a = b .before .before .before .before .before .args in
-    body-says (a .s .now) (a .n) (a .m) (good (b .before)) (b .bit-width .result) (b .bit-width .ensures) _ _ (d .before .bit-width2 .ensures) (ap submeshesSays (sym (c .before .k2 .given .1)) ∙ d .check-counted .ensures)
+    body-says (a .s .now) (a .n) (a .m) (good (b .before)) (b .bit-width .result) (b .bit-width .ensures) _ _ (d .before .bit-width2 .ensures) (ap submeshesSays (sym (c .before .k2 .given .1)) ∙ d .check-submesh-list .ensures)
 
 returns-3 : tie.Need-returns-3
 returns-3 c =
     let d = c .before .before .before in
     let b = d .before .before in
     let a = b .before .before .before .before .before .args in
-    body-says (a .s .now) (a .n) (a .m) (good (b .before)) (b .bit-width .result) (b .bit-width .ensures) _ _ (d .before .bit-width2 .ensures) (ap submeshesSays (sym (c .before .count .given .1)) ∙ d .check-counted .ensures)
+    body-says (a .s .now) (a .n) (a .m) (good (b .before)) (b .bit-width .result) (b .bit-width .ensures) _ _ (d .before .bit-width2 .ensures) (ap submeshesSays (sym (c .before .count .given .1)) ∙ d .check-submesh-list .ensures)
 
-pub check-vertices-on-spec : {M : Type 1} → statement M
-check-vertices-on-spec =
+pub check-from-vertices-spec : {M : Type 1} → statement M
+check-from-vertices-spec =
     tie.close
     (tie.spec
     mul-start
@@ -124,9 +124,9 @@ check-vertices-on-spec =
     add-end
     bit-width-requires-2
     cast-v
-    add-check-counted
-    mul-check-counted
-    check-counted-requires
+    add-check-submesh-list
+    mul-check-submesh-list
+    check-submesh-list-requires
     enum-known-k-2
     enum-known-count
     returns

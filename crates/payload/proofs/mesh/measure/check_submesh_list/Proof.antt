@@ -1,12 +1,12 @@
--- `check_counted` meets its contract: each return is a way through `readSubmeshes`. Assumes nothing.
+-- `check_submesh_list` meets its contract: each return is a way through `readSubmeshes`. Assumes nothing.
 use mathlib.Core.Path.{sym, ap, _∙_}
 use native.Mathlib.Omega.{arith}
 use Rattle.bits.specs.Verdict.{mapped}
 use Rattle.payload.specs.Internal.{submeshesSize}
 use Rattle.payload.proofs.SubmeshLaws.{submeshes-short, submeshes-none, submeshes-on}
 use borrow.Author.Needs.{needs}
-use Rattle.payload.proofs.mesh.measure.check_counted.Statement.{statement}
-use Rattle.payload.proofs.mesh.measure.check_counted.Tie as tie
+use Rattle.payload.proofs.mesh.measure.check_submesh_list.Statement.{statement}
+use Rattle.payload.proofs.mesh.measure.check_submesh_list.Tie as tie
 
 mul-end : tie.Need-mul-end
 mul-end c = search needs
@@ -39,8 +39,8 @@ returns-3 c =
     let k = c .before .before .one-field in
     c .check-submeshes .ensures ∙ sym (ap (mapped submeshesSize) (submeshes-on (a .s .now) (a .w) (a .m) (k .result) (a .p) (omega arith) (sym (k .ensures)) (omega arith)))
 
-pub check-counted-spec : {M : Type 1} → statement M
-check-counted-spec =
+pub check-submesh-list-spec : {M : Type 1} → statement M
+check-submesh-list-spec =
     tie.close
     (tie.spec
     mul-end
