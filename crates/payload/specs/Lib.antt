@@ -29,4 +29,5 @@ pub mod Packed
 pub mod MeshWrite
 pub mod MeshMarked
 pub mod Laws
+pub mod WrittenLaws
 pub mod Writing
