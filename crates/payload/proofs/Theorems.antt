@@ -15,6 +15,7 @@ use Rattle.payload.specs.MeshRead.{readMeshes}
 use Rattle.payload.specs.MeshDrawing.{drawnRecords, submeshTotal, pointTotal}
 use Rattle.payload.specs.Laws.{EquiReads, EquiWrites, CbmpReads, CbmpWrites}
 use Rattle.payload.specs.Laws.{MeshesReads, MeshReads, MeshWrites, TablesRead}
+use Rattle.payload.specs.WrittenLaws.{EquiWritesInto, CbmpWritesInto, MeshWritesInto}
 use Rattle.payload.specs.ShareLaws.{ShareLaws}
 use Rattle.payload.specs.CropMarked.{CropMarked}
 use Rattle.payload.specs.SphereMarked.{SphereMarked}
@@ -33,6 +34,7 @@ use Rattle.payload.proofs.CubeMarked as cube
 use Rattle.payload.proofs.MeshProofs as mesh
 use Rattle.payload.proofs.MeshTheorems as meshes
 use Rattle.payload.proofs.MeshWriteProofs as writing
+use Rattle.payload.proofs.WrittenProofs as written
 use Rattle.payload.proofs.MeasureLaws as measure
 use Rattle.payload.proofs.SettledLaws as settled
 
@@ -61,6 +63,17 @@ mesh-writes = writing.mesh-writes
 
 pub tables-read : TablesRead
 tables-read = writing.tables-read
+
+-- ---- what a writer leaves in its buffer, of specs/WrittenLaws.antt
+
+pub equi-writes-into : EquiWritesInto
+equi-writes-into = written.equi-writes-into
+
+pub cbmp-writes-into : CbmpWritesInto
+cbmp-writes-into = written.cbmp-writes-into
+
+pub mesh-writes-into : MeshWritesInto
+mesh-writes-into = written.mesh-writes-into
 
 -- ---- a cube's padding, of specs/ShareLaws.antt
 

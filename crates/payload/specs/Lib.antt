@@ -31,3 +31,4 @@ pub mod MeshWrite
 pub mod MeshMarked
 pub mod Laws
 pub mod InternalWriting
+pub mod WrittenLaws
