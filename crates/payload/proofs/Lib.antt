@@ -42,4 +42,5 @@ pub mod BoxLaws
 pub mod JudgeLaws
 pub mod PutBoxLaws
 pub mod MeshWriteProofs
+pub mod RefusalProofs
 pub mod Theorems

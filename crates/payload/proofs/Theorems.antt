@@ -16,6 +16,7 @@ use Rattle.payload.specs.MeshDrawing.{drawnRecords, submeshTotal, pointT
 use Rattle.payload.specs.Laws.{EquiReads, EquiWrites, CbmpReads, CbmpWrites}
 use Rattle.payload.specs.Laws.{MeshesReads, MeshReads, MeshWrites, TablesRead}
 use Rattle.payload.specs.ShareLaws.{ShareLaws}
+use Rattle.payload.specs.Refusals.{Refusals}
 use Rattle.payload.specs.CropMarked.{CropMarked}
 use Rattle.payload.specs.SphereMarked.{SphereMarked}
 use Rattle.payload.specs.CubeMarked.{CubeMarked}
@@ -35,6 +36,7 @@ use Rattle.payload.proofs.MeshTheorems as meshes
 use Rattle.payload.proofs.MeshWriteProofs as writing
 use Rattle.payload.proofs.MeasureLaws as measure
 use Rattle.payload.proofs.SettledLaws as settled
+use Rattle.payload.proofs.RefusalProofs as refusal
 
 -- ---- reading and writing, of specs/Laws.antt
 
@@ -61,6 +63,11 @@ mesh-writes = writing.mesh-writes
 
 pub tables-read : TablesRead
 tables-read = writing.tables-read
+
+-- ---- which refusals each call can give, of specs/Refusals.antt
+
+pub refusals : Refusals
+refusals = refusal.refusals
 
 -- ---- a cube's padding, of specs/ShareLaws.antt
 

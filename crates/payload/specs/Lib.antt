@@ -30,3 +30,4 @@ pub mod MeshWrite
 pub mod MeshMarked
 pub mod Laws
 pub mod Writing
+pub mod Refusals
