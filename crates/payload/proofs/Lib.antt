@@ -32,7 +32,6 @@ pub mod DrawLaws
 pub mod ExpandedLaws
 pub mod RecordLaws
 pub mod TableLaws
-pub mod SettledLaws
 pub mod PackedLaws
 pub mod WriterLaws
 pub mod PutRunLaws
@@ -43,4 +42,5 @@ pub mod JudgeLaws
 pub mod PutBoxLaws
 pub mod MeshWriteProofs
 pub mod WrittenProofs
+pub mod RefusalProofs
 pub mod Theorems

@@ -17,6 +17,7 @@ use Rattle.payload.specs.Laws.{EquiReads, EquiWrites, CbmpReads, CbmpWri
 use Rattle.payload.specs.Laws.{MeshesReads, MeshReads, MeshWrites, TablesRead}
 use Rattle.payload.specs.WrittenLaws.{EquiWritesInto, CbmpWritesInto, MeshWritesInto}
 use Rattle.payload.specs.ShareLaws.{ShareLaws}
+use Rattle.payload.specs.Refusals.{Refusals}
 use Rattle.payload.specs.CropMarked.{CropMarked}
 use Rattle.payload.specs.SphereMarked.{SphereMarked}
 use Rattle.payload.specs.CubeMarked.{CubeMarked}
@@ -36,7 +37,7 @@ use Rattle.payload.proofs.MeshTheorems as meshes
 use Rattle.payload.proofs.MeshWriteProofs as writing
 use Rattle.payload.proofs.WrittenProofs as written
 use Rattle.payload.proofs.MeasureLaws as measure
-use Rattle.payload.proofs.SettledLaws as settled
+use Rattle.payload.proofs.RefusalProofs as refusal
 
 -- ---- reading and writing, of specs/Laws.antt
 
@@ -74,6 +75,11 @@ cbmp-writes-into = written.cbmp-writes-into
 
 pub mesh-writes-into : MeshWritesInto
 mesh-writes-into = written.mesh-writes-into
+
+-- ---- which refusals each call can give, of specs/Refusals.antt
+
+pub refusals : Refusals
+refusals = refusal.refusals
 
 -- ---- a cube's padding, of specs/ShareLaws.antt
 
@@ -118,7 +124,7 @@ usable-read = equi.usable-read
 -- ---- kind 2: it is read or refused by its bytes alone, and what was read takes its room among them
 
 pub never-needs : (s l : List ℕ) → readMeshes s ≡ needs l → ⊥
-never-needs = settled.never-needs
+never-needs = refusal.never-needs
 
 -- a mesh takes a byte, a coordinate number and a point a bit, and a submesh 48 bits or more
 pub list-fits : (s : List ℕ) (l : List Mesh) → readMeshes s ≡ accepted l

@@ -32,3 +32,4 @@ pub mod MeshMarked
 pub mod Laws
 pub mod InternalWriting
 pub mod WrittenLaws
+pub mod Refusals

@@ -1,0 +1,275 @@
+-- Which refusals each call can give: a law for each way in which verdicts are put together. Assumes nothing.
+use Prim.Native.Nat.{ℕ, zero, suc, _+_, _-_, _*_, _/_, _%_, _^_}
+use mathlib.Core.Path.{_≡_, refl}
+use mathlib.Core.Bool.{Bool, true, false, _&&_, cond}
+use mathlib.Core.List.{List, [], _∷_, map}
+use lib.Dec.{leb, eqb}
+use lib.ListN.{length, getD}
+use lib.Ieee.{Float}
+use lib.Ieee.Scale.{finite}
+use Rattle.bits.specs.Verdict.{Verdict, accepted, needs, declined, within, limited, andThen, mapped}
+use Rattle.bits.specs.Field.{field}
+use Rattle.bits.specs.Number.{ranOn, widthOf}
+use Rattle.bits.specs.Read.{numberAt}
+use Rattle.bits.specs.Header.{Item, listEnd, box, sizedAt, headerAt}
+use Rattle.bits.specs.Run.{zeros, Found, complete, shift, readRun}
+use Rattle.bits.proofs.VerdictLaws.{clash}
+use Rattle.payload.specs.Lent.{Plan, allFit, inItems, answerFor}
+use Rattle.payload.specs.Crop.{full, usable}
+use Rattle.payload.specs.Payload.{fullBox}
+use Rattle.payload.specs.Equi.{cropOf, fourWords, equiFields, equiUsable, equiRead, withCrop, equiWritten}
+use Rattle.payload.specs.Cbmp.{layoutThenPadding, cbmpRead, cbmpWritten}
+use Rattle.payload.specs.Sphere.{gridUsable, sphereNumbers, sphereUvs}
+use Rattle.payload.specs.Cube.{cellsUsable, shareUsable, cubeNumbers, cubeFloats}
+use Rattle.payload.specs.Count.{counted, indexCount}
+use Rattle.payload.specs.Mesh.{Mesh}
+use Rattle.payload.specs.MeshSpells.{aligned, part, meshType}
+use Rattle.payload.specs.MeshRead.{inRange, many, readSubmesh, readSubmeshes, readWord, afterVertices}
+use Rattle.payload.specs.MeshRead.{afterPoolCount, readMesh, readItem, readBoxes, readFrom, readMeshes}
+use Rattle.payload.specs.Meshes.{listSize, drawnMeshes, recordedMeshes}
+use Rattle.payload.specs.Tables.{tableLengths, bodyRead, tablesOf}
+use Rattle.payload.specs.MeshWrite.{isMesh, meshWritten}
+use Rattle.payload.specs.Refusals.{among, Refuses, gives, refuses, RefusesOr12, listed, asks, Refusals}
+use Rattle.payload.specs.declared.crop.Bounds.{Bounds}
+
+-- ---- the ways in which verdicts are put together
+
+module _ {ks : List ℕ} where
+  then-refuses : {A B : Type 0} {v : Verdict A} {f : A → Verdict B} → Refuses ks v → ((a : A) → Refuses ks (f a))
+      → Refuses ks (andThen v f)
+  then-refuses (gives a) h = h a
+  then-refuses (refuses k e) h = refuses k e
+
+  mapped-refuses : {A B : Type 0} {v : Verdict A} (f : A → B) → Refuses ks v → Refuses ks (mapped f v)
+  mapped-refuses f r = then-refuses r (λ x. gives (f x))
+
+  cond-refuses : {A : Type 0} {u v : Verdict A} (b : Bool) → Refuses ks u → Refuses ks v → Refuses ks (cond b u v)
+  cond-refuses true r q = r
+  cond-refuses false r q = q
+
+  within-refuses : {A : Type 0} (m n : ℕ) (a : A) (k : ℕ) → among k ks ≡ true
+      → Refuses ks (within m n a (declined k))
+  unfolding within
+  within-refuses m n a k e = cond-refuses (leb m n) (gives a) (refuses k e)
+
+  limited-refuses : {A : Type 0} {v : Verdict A} (s : List ℕ) → among 2 ks ≡ true → Refuses ks v
+      → Refuses ks (limited s v)
+  unfolding limited
+  limited-refuses s e r = cond-refuses (leb (length s) 67108864) r (refuses 2 e)
+
+  answer-refuses : {A : Type 0} {v : Verdict (Plan A)} (buffers : List (List ℕ)) → Refuses ks v
+      → RefusesOr12 ks (answerFor v buffers)
+  unfolding answerFor
+  answer-refuses buffers (gives p) = go (allFit (p .lists) buffers)
+    where
+      go : (b : Bool) → RefusesOr12 ks (cond b (accepted (p .answer)) (needs (map length (p .lists))))
+      go true = listed (gives (p .answer))
+      go false = asks (map length (p .lists))
+  answer-refuses buffers (refuses k e) = listed (refuses k e)
+
+  -- a list for one buffer
+  items-refuses : {v : Verdict (List ℕ)} (u : ℕ) (buffers : List (List ℕ)) → Refuses ks v
+      → RefusesOr12 ks (answerFor (inItems u v) buffers)
+  items-refuses u buffers r =
+      answer-refuses buffers (mapped-refuses (λ l. record { answer = length l / u; lists = l ∷ [] }) r)
+
+  -- n things, one after the other
+  many-refuses : {A : Type 0} (read : ℕ → Found A) → ((p : ℕ) → Refuses ks (read p)) → (n p : ℕ)
+      → Refuses ks (many read n p)
+  unfolding many
+  many-refuses read h zero p = gives ([], p)
+  many-refuses read h (suc n) p =
+      then-refuses (h p) (λ x. then-refuses (many-refuses read h n (x .1)) (λ l. gives (x .0 ∷ l .0, l .1)))
+
+  -- ---- what is refused with 3 alone
+
+  -- each number that the steps refuse with is listed
+  module _ (three : among 3 ks ≡ true) where
+    number-refuses : (n : ℕ) (s : List ℕ) (p : ℕ) → Refuses ks (numberAt n s p)
+    number-refuses n s p = within-refuses (p + n) (length s) (field s (8 * p) (8 * n), p + n) 3 three
+
+    complete-refuses : {A : Type 0} {v : Verdict A} (s : List ℕ) (e : ℕ) → Refuses ks v → Refuses ks (complete s e v)
+    unfolding complete
+    complete-refuses s e r = cond-refuses (leb e (8 * length s)) r (refuses 3 three)
+
+    -- ---- kinds 0 and 1
+
+    box-refuses : among 4 ks ≡ true → (s : List ℕ) → Refuses ks (fullBox s)
+    unfolding fullBox
+    box-refuses four s =
+        then-refuses (number-refuses 1 s 0) (λ v.
+        cond-refuses (eqb (v .0) 0) (within-refuses (v .1 + 3) (length s) (v .1 + 3) 3 three) (refuses 4 four))
+
+    equi-refuses : among 4 ks ≡ true → among 10 ks ≡ true → (s : List ℕ) → Refuses ks (equiRead s)
+    unfolding equiFields fourWords equiUsable
+    equi-refuses four ten s =
+        then-refuses
+        (then-refuses (box-refuses four s) (λ p.
+        then-refuses (number-refuses 4 s p) (λ t. then-refuses (number-refuses 4 s (t .1)) (λ b.
+        then-refuses (number-refuses 4 s (b .1)) (λ l. then-refuses (number-refuses 4 s (l .1)) (λ r. gives _))))))
+        (λ ρ. cond-refuses (usable (cropOf ρ)) (gives ρ) (refuses 10 ten))
+
+    cbmp-refuses : among 4 ks ≡ true → among 5 ks ≡ true → (s : List ℕ) → Refuses ks (cbmpRead s)
+    unfolding cbmpRead layoutThenPadding
+    cbmp-refuses four five s =
+        then-refuses (box-refuses four s) (λ at.
+        then-refuses (number-refuses 4 s at) (λ layout.
+        cond-refuses (eqb (layout .0) 0)
+        (then-refuses (number-refuses 4 s (layout .1)) (λ p. within-refuses (p .0) 4096 (p .0) 5 five))
+        (refuses 5 five)))
+
+    -- ---- kind 2, from a run up to the list of boxes
+
+    module _ (seven : among 7 ks ≡ true) (eight : among 8 ks ≡ true) where
+      range-refuses : {A : Type 0} {v : Verdict A} (low high n : ℕ) → Refuses ks v → Refuses ks (inRange low high n v)
+      unfolding inRange
+      range-refuses low high n r =
+          cond-refuses (leb low n) (cond-refuses (leb n high) r (refuses 7 seven)) (refuses 7 seven)
+
+      next-refuses : (limit last f : ℕ) → Refuses ks (ranOn limit last f)
+      unfolding ranOn
+      next-refuses limit last f =
+          let below : (n : ℕ) → Refuses ks (within (n + 1) limit n (declined 8)) =
+          λ n. within-refuses (n + 1) limit n 8 eight in
+          cond-refuses (eqb (f % 2) 0) (below (last + f / 2))
+          (cond-refuses (leb ((f + 1) / 2) last) (below (last - (f + 1) / 2)) (refuses 8 eight))
+
+      run-refuses : (s : List ℕ) (w limit n p : ℕ) (prior : List ℕ) → Refuses ks (readRun s w limit n p prior)
+      unfolding readRun
+      run-refuses s w limit zero p prior = gives ([], p)
+      run-refuses s w limit (suc n) p prior =
+          complete-refuses s (p + w)
+          (then-refuses (next-refuses limit (getD prior 0 0) (field s p w)) (λ next.
+          mapped-refuses (λ x. (next ∷ x .0, x .1)) (run-refuses s w limit n (p + w) (shift prior next))))
+
+      submesh-refuses : (s : List ℕ) (w m p : ℕ) → Refuses ks (readSubmesh s w m p)
+      unfolding readSubmesh
+      submesh-refuses s w m p =
+          let n = field s (p + 16) 32 in
+          complete-refuses s (p + 48)
+          (range-refuses 1 128000 n (then-refuses (run-refuses s w m n (p + 48) (zeros 1)) (λ x. gives _)))
+
+      submeshes-refuses : (s : List ℕ) (w m p : ℕ) → Refuses ks (readSubmeshes s w m p)
+      unfolding readSubmeshes
+      submeshes-refuses s w m p =
+          let n = field s p 32 in
+          complete-refuses s (p + 32)
+          (cond-refuses (eqb n 0) (refuses 7 seven)
+          (many-refuses (readSubmesh s w m) (submesh-refuses s w m) n (p + 32)))
+
+      mesh-refuses : (s : List ℕ) → Refuses ks (readMesh s)
+      unfolding readMesh afterPoolCount afterVertices
+      mesh-refuses s =
+          let n = field s 0 32 in
+          let word : (p : ℕ) → Refuses ks (readWord s p) = λ p. complete-refuses s (p + 32) (gives _) in
+          complete-refuses s 32 (range-refuses 1 10000 n
+          (then-refuses (many-refuses (readWord s) word n 32) (λ pool.
+          let m = field s (pool .1) 32 in
+          complete-refuses s (pool .1 + 32) (range-refuses 1 32000 m
+          (then-refuses (run-refuses s (widthOf n) n (5 * m) (pool .1 + 32) (zeros 5)) (λ v.
+          then-refuses (submeshes-refuses s (widthOf m) m (aligned (v .1))) (λ l. gives _)))))))
+
+      body-refuses : among 2 ks ≡ true → (s : List ℕ) → Refuses ks (bodyRead s)
+      body-refuses two s = limited-refuses s two (mapped-refuses (λ x. x .0) (mesh-refuses s))
+
+      module _ (six : among 6 ks ≡ true) where
+        header-refuses : (s : List ℕ) (p : ℕ) → Refuses ks (headerAt s p)
+        unfolding headerAt sizedAt
+        header-refuses s p =
+            let size = field s (8 * p) 32 in
+            cond-refuses (leb (p + 8) (length s))
+            (cond-refuses (leb 8 size)
+            (within-refuses (p + size) (length s) (box (field s (8 * (p + 4)) 32) (p + 8) (p + size)) 6 six)
+            (refuses 6 six))
+            (gives listEnd)
+
+        item-refuses : (s : List ℕ) (rest : ℕ → Verdict (List Mesh)) → ((p : ℕ) → Refuses ks (rest p)) → (i : Item)
+            → Refuses ks (readItem s rest i)
+        item-refuses s rest h listEnd = gives []
+        item-refuses s rest h (box type body end) =
+            cond-refuses (eqb type meshType)
+            (then-refuses (mesh-refuses (part s body end)) (λ x. then-refuses (h end) (λ l. gives (x .0 ∷ l))))
+            (h end)
+
+        boxes-refuses : (s : List ℕ) (turns p : ℕ) → Refuses ks (readBoxes s turns p)
+        unfolding readBoxes
+        boxes-refuses s zero p = gives []
+        boxes-refuses s (suc turns) p =
+            then-refuses (header-refuses s p) (item-refuses s (readBoxes s turns) (boxes-refuses s turns))
+
+        meshes-refuses : (s : List ℕ) → Refuses ks (readMeshes s)
+        unfolding readFrom
+        meshes-refuses s = boxes-refuses s (length s) 0
+
+-- ---- the sphere, the cube and the counts
+
+numbers-refuses : (rings sectors : ℕ) (b : Bounds) → Refuses (9 ∷ 10 ∷ []) (sphereNumbers rings sectors b)
+unfolding sphereNumbers
+numbers-refuses rings sectors b =
+    cond-refuses (gridUsable rings sectors) (cond-refuses (usable b) (gives _) (refuses 10 refl)) (refuses 9 refl)
+
+module _ {ks : List ℕ} (nine : among 9 ks ≡ true) where
+  uvs-refuses : (rings sectors : ℕ) → Refuses ks (sphereUvs rings sectors)
+  unfolding sphereUvs
+  uvs-refuses rings sectors = cond-refuses (gridUsable rings sectors) (gives _) (refuses 9 nine)
+
+  cube-refuses : (cells : ℕ) → Refuses ks (cubeNumbers cells)
+  unfolding cubeNumbers
+  cube-refuses cells = cond-refuses (cellsUsable cells) (gives _) (refuses 9 nine)
+
+floats-refuses : (cells : ℕ) (radius padding : Float) → Refuses (9 ∷ 11 ∷ []) (cubeFloats cells radius padding)
+unfolding cubeFloats
+floats-refuses cells radius padding =
+    cond-refuses (cellsUsable cells)
+    (cond-refuses (finite radius && shareUsable padding) (gives _) (refuses 11 refl)) (refuses 9 refl)
+
+counted-refuses : (n : ℕ) → Refuses (14 ∷ []) (counted n)
+counted-refuses n = within-refuses (n + 1) (2 ^ 64) n 14 refl
+
+-- ---- the calls
+
+pub refusals : Refusals
+unfolding equiWritten cbmpWritten meshWritten indexCount
+refusals =
+    record {
+      parse-equi = λ s. limited-refuses s refl (mapped-refuses withCrop (equi-refuses refl refl refl s));
+      parse-cbmp = λ s. limited-refuses s refl (cbmp-refuses refl refl refl s);
+      measure-mesh = λ s. mapped-refuses tableLengths (body-refuses refl refl refl refl s);
+      measure-meshes = λ s. limited-refuses s refl (mapped-refuses listSize (meshes-refuses refl refl refl refl s));
+      parse-mesh = λ s buffers.
+          answer-refuses buffers (mapped-refuses tablesOf (body-refuses refl refl refl refl s));
+      parse-meshes = λ s buffers.
+          answer-refuses buffers
+          (mapped-refuses drawnMeshes (limited-refuses s refl (meshes-refuses refl refl refl refl s)));
+      mesh-records = λ s buffers.
+          answer-refuses buffers
+          (mapped-refuses recordedMeshes (limited-refuses s refl (meshes-refuses refl refl refl refl s)));
+      sphere-indices-bounded = λ rings sectors b buffers. items-refuses 1 buffers (numbers-refuses rings sectors b);
+      sphere-indices = λ rings sectors buffers. items-refuses 1 buffers (numbers-refuses rings sectors full);
+      sphere-uvs = λ rings sectors buffers. items-refuses 2 buffers (uvs-refuses refl rings sectors);
+      sphere-lengths = λ rings sectors b.
+          then-refuses (numbers-refuses rings sectors b) (λ l. mapped-refuses _ (uvs-refuses refl rings sectors));
+      cubemap-indices = λ cells buffers. items-refuses 1 buffers (cube-refuses refl cells);
+      cubemap-mesh = λ cells radius padding buffers. items-refuses 5 buffers (floats-refuses cells radius padding);
+      cubemap-lengths = λ cells radius padding.
+          then-refuses (cube-refuses refl cells) (λ l. mapped-refuses _ (floats-refuses cells radius padding));
+      write-equi = λ ρ buffers. items-refuses 1 buffers (cond-refuses (usable (cropOf ρ)) (gives _) (refuses 10 refl));
+      write-cbmp = λ p buffers. items-refuses 1 buffers (cond-refuses (leb p 4096) (gives _) (refuses 5 refl));
+      write-mesh = λ pool coordinates rows points buffers.
+          items-refuses 1 buffers
+          (cond-refuses (isMesh pool coordinates rows points) (gives _) (refuses 13 refl));
+      vertex-count = λ rings sectors. counted-refuses ((rings + 1) * (sectors + 1));
+      index-count = λ rings sectors.
+          cond-refuses (leb 2 rings) (counted-refuses (6 * rings * sectors)) (gives 0);
+      cubemap-vertex-count = λ cells. counted-refuses (6 * (cells + 1) * (cells + 1));
+      cubemap-index-count = λ cells. counted-refuses (36 * cells * cells);
+    }
+
+-- ---- a call that is lent no buffer asks for none
+
+lends-none : {A : Type 0} {ks : List ℕ} {v : Verdict A} → Refuses ks v → (l : List ℕ) → v ≡ needs l → ⊥
+lends-none (gives a) l e = clash (cc)
+lends-none (refuses k h) l e = clash (cc)
+
+pub never-needs : (s l : List ℕ) → readMeshes s ≡ needs l → ⊥
+never-needs s = lends-none (meshes-refuses {ks = 3 ∷ 6 ∷ 7 ∷ 8 ∷ []} refl refl refl refl s)

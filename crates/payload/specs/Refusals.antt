@@ -1,0 +1,80 @@
+-- Which refusals each call can give: only those that document 01 lists for it, and 12 only where it is listed.
+-- The proof is in proofs/RefusalProofs.antt.
+use Prim.Native.Nat.{ℕ}
+use mathlib.Core.Path.{_≡_}
+use mathlib.Core.Bool.{Bool, true, false, _||_}
+use mathlib.Core.List.{List, [], _∷_}
+use lib.Dec.{eqb}
+use lib.Ieee.{Float}
+use Rattle.bits.specs.Verdict.{Verdict, accepted, needs, declined, limited, mapped}
+use Rattle.payload.specs.Lent.{inItems, answerFor}
+use Rattle.payload.specs.Fill.{bothLengths}
+use Rattle.payload.specs.Crop.{full}
+use Rattle.payload.specs.Equi.{equiRead, withCrop, equiWritten}
+use Rattle.payload.specs.Cbmp.{cbmpRead, cbmpWritten}
+use Rattle.payload.specs.Sphere.{sphereNumbers, sphereUvs}
+use Rattle.payload.specs.Cube.{cubeNumbers, cubeFloats}
+use Rattle.payload.specs.Count.{vertexCount, indexCount, cubemapVertexCount, cubemapIndexCount}
+use Rattle.payload.specs.MeshRead.{readMeshes}
+use Rattle.payload.specs.Meshes.{listSize, meshesPlan, recordsPlan}
+use Rattle.payload.specs.Tables.{tableLengths, bodyRead, tablesPlan}
+use Rattle.payload.specs.MeshWrite.{meshWritten}
+use Rattle.payload.specs.declared.crop.Bounds.{Bounds}
+use Rattle.payload.specs.declared.equi.EquiFields.{EquiFields}
+
+-- k is one of these numbers
+abbrev pub among : ℕ → List ℕ → Bool
+among k [] = false
+among k (j ∷ ks) = eqb k j || among k ks
+
+-- a value, or a refusal with one of these numbers, and never 12
+pub data Refuses {A : Type 0} (ks : List ℕ) : Verdict A → Type 0 where
+  gives : (a : A) → Refuses ks (accepted a)
+  refuses : (k : ℕ) → among k ks ≡ true → Refuses ks (declined k)
+
+-- the same, or 12, the lengths that the lent buffers need
+pub data RefusesOr12 {A : Type 0} (ks : List ℕ) : Verdict A → Type 0 where
+  listed : {v : Verdict A} → Refuses ks v → RefusesOr12 ks v
+  asks : (l : List ℕ) → RefusesOr12 ks (needs l)
+
+-- of each call, what its contract says that it answers, whatever buffers are lent
+pub record Refusals : Type 0 where
+  -- the readers that are lent no buffer
+  pub parse-equi : (s : List ℕ) → Refuses (2 ∷ 3 ∷ 4 ∷ 10 ∷ []) (limited s (mapped withCrop (equiRead s)))
+  pub parse-cbmp : (s : List ℕ) → Refuses (2 ∷ 3 ∷ 4 ∷ 5 ∷ []) (limited s (cbmpRead s))
+  pub measure-mesh : (s : List ℕ) → Refuses (2 ∷ 3 ∷ 7 ∷ 8 ∷ []) (mapped tableLengths (bodyRead s))
+  pub measure-meshes : (s : List ℕ) → Refuses (2 ∷ 3 ∷ 6 ∷ 7 ∷ 8 ∷ []) (limited s (mapped listSize (readMeshes s)))
+  -- those that are
+  pub parse-mesh : (s : List ℕ) (buffers : List (List ℕ))
+      → RefusesOr12 (2 ∷ 3 ∷ 7 ∷ 8 ∷ []) (answerFor (tablesPlan s) buffers)
+  pub parse-meshes : (s : List ℕ) (buffers : List (List ℕ))
+      → RefusesOr12 (2 ∷ 3 ∷ 6 ∷ 7 ∷ 8 ∷ []) (answerFor (meshesPlan s) buffers)
+  pub mesh-records : (s : List ℕ) (buffers : List (List ℕ))
+      → RefusesOr12 (2 ∷ 3 ∷ 6 ∷ 7 ∷ 8 ∷ []) (answerFor (recordsPlan s) buffers)
+  -- the sphere and the cube
+  pub sphere-indices-bounded : (rings sectors : ℕ) (b : Bounds) (buffers : List (List ℕ))
+      → RefusesOr12 (9 ∷ 10 ∷ []) (answerFor (inItems 1 (sphereNumbers rings sectors b)) buffers)
+  pub sphere-indices : (rings sectors : ℕ) (buffers : List (List ℕ))
+      → RefusesOr12 (9 ∷ 10 ∷ []) (answerFor (inItems 1 (sphereNumbers rings sectors full)) buffers)
+  pub sphere-uvs : (rings sectors : ℕ) (buffers : List (List ℕ))
+      → RefusesOr12 (9 ∷ []) (answerFor (inItems 2 (sphereUvs rings sectors)) buffers)
+  pub sphere-lengths : (rings sectors : ℕ) (b : Bounds)
+      → Refuses (9 ∷ 10 ∷ []) (bothLengths (sphereNumbers rings sectors b) (sphereUvs rings sectors))
+  pub cubemap-indices : (cells : ℕ) (buffers : List (List ℕ))
+      → RefusesOr12 (9 ∷ []) (answerFor (inItems 1 (cubeNumbers cells)) buffers)
+  pub cubemap-mesh : (cells : ℕ) (radius padding : Float) (buffers : List (List ℕ))
+      → RefusesOr12 (9 ∷ 11 ∷ []) (answerFor (inItems 5 (cubeFloats cells radius padding)) buffers)
+  pub cubemap-lengths : (cells : ℕ) (radius padding : Float)
+      → Refuses (9 ∷ 11 ∷ []) (bothLengths (cubeNumbers cells) (cubeFloats cells radius padding))
+  -- the writers
+  pub write-equi : (ρ : EquiFields) (buffers : List (List ℕ))
+      → RefusesOr12 (10 ∷ []) (answerFor (inItems 1 (equiWritten ρ)) buffers)
+  pub write-cbmp : (p : ℕ) (buffers : List (List ℕ))
+      → RefusesOr12 (5 ∷ []) (answerFor (inItems 1 (cbmpWritten p)) buffers)
+  pub write-mesh : (pool coordinates rows points : List ℕ) (buffers : List (List ℕ))
+      → RefusesOr12 (13 ∷ []) (answerFor (inItems 1 (meshWritten pool coordinates rows points)) buffers)
+  -- the counts
+  pub vertex-count : (rings sectors : ℕ) → Refuses (14 ∷ []) (vertexCount rings sectors)
+  pub index-count : (rings sectors : ℕ) → Refuses (14 ∷ []) (indexCount rings sectors)
+  pub cubemap-vertex-count : (cells : ℕ) → Refuses (14 ∷ []) (cubemapVertexCount cells)
+  pub cubemap-index-count : (cells : ℕ) → Refuses (14 ∷ []) (cubemapIndexCount cells)
