@@ -9,7 +9,7 @@ use Rattle.payload.specs.MeshDrawing.{pointWords, runWords}
 use Rattle.payload.specs.Internal.{wordAt, wordIn, wordsFrom, Expanded, ExpandedFrom, PointsBelow}
 use Rattle.payload.proofs.FillLaws.{getD-sets}
 use Rattle.payload.proofs.MeasureLaws.{run-floats}
-use Rattle.payload.proofs.DrawLaws.{point-first, point-agrees, run-agrees}
+use Rattle.payload.proofs.PointLaws.{point-first, point-agrees, run-agrees}
 
 -- ---- stores leave what lies before and after them
 

@@ -28,6 +28,8 @@ pub mod MeshProofs
 pub mod CheckLaws
 pub mod MeasureLaws
 pub mod TurnLaws
+pub mod PointLaws
+pub mod HeadLaws
 pub mod DrawLaws
 pub mod ExpandedLaws
 pub mod RecordLaws

@@ -1,20 +1,19 @@
 -- A part of a buffer that was filled with the numbers of a run: what the buffer then holds. Assumes nothing.
 use Prim.Native.Nat.{ℕ, _+_, _-_, _*_, _%_, _≤_, _<_}
-use mathlib.Core.Path.{_≡_, refl, sym, ap, _∙_}
+use mathlib.Core.Path.{_≡_, sym, ap, _∙_}
 use mathlib.Core.Bool.{true}
 use mathlib.Core.List.{List, [], _∷_, _++_, append-assoc}
 use native.Mathlib.Omega.{arith}
 use lib.ListN.{length, take, drop, length-drop}
 use lib.Seq.{sets, sets-eq, drop-drop, length-take-le}
 use borrow.Rule.Slice.PartMut.{putMid}
-use Rattle.bits.specs.Verdict.{accepted}
 use Rattle.bits.specs.Number.{widthOf}
 use Rattle.bits.specs.Run.{zeros, readRun, summed, runThere, runFilled, fivesFilled}
 use Rattle.bits.specs.declared.fields.runs.Run.{Run}
 use Rattle.bits.proofs.RunLaws.{run-spells}
 use Rattle.bits.proofs.SummedLaws.{length-summed, read-summed}
 use Rattle.bits.proofs.ThereLaws.{there-yes, filled-yes, fives-yes}
-use Rattle.payload.specs.Internal.{WasRead, runNumbers, RunPlace, pointsOf, SomeRun, someNumbers}
+use Rattle.payload.specs.Internal.{WasRead, runNumbers, VerticesThere, numbersOf, PointsThere, pointsOf, SomeRun, someNumbers}
 use Rattle.payload.proofs.RangeLaws.{width-small, width-some}
 use Rattle.payload.proofs.CheckLaws.{run-fits}
 use Rattle.payload.proofs.StepLaws.{read-value}
@@ -46,21 +45,22 @@ read-numbers s w limit n p prior h r =
     let v = read-value (readRun s w limit n p prior) r in
     read-summed s w limit n p prior (v .0 .0) (v .0 .1) h (v .1) ∙ sym (ap runNumbers (v .1))
 
--- five running numbers into the part of a buffer from place a on
-pub fives-stored : (s : List ℕ) (w limit count p a : ℕ) (d l : List ℕ) → length s ≤ 67108864 → 64 ≤ p → 1 ≤ w → w ≤ 16 → limit ≤ 65536 → 1 ≤ count → a + 5 * count ≤ length d
-    → WasRead (readRun s w limit (5 * count) p (zeros 5)) → (k : ℕ) → k ≡ 5 * count → l ≡ fivesFilled s p w (take k (drop a d))
-    → putMid a k d l ≡ sets d a (runNumbers (readRun s w limit (5 * count) p (zeros 5)))
-fives-stored s w limit count p a d l h lp lw uw lh o r read k ek e =
+-- the vertices' numbers into the part of a buffer from place a on
+pub fives-stored : (s : List ℕ) (run : Run) (w a : ℕ) (d l : List ℕ) → VerticesThere s run → w ≡ widthOf (run .limit) → a + 5 * run .count ≤ length d
+    → (k : ℕ) → k ≡ 5 * run .count → l ≡ fivesFilled s (run .bit) w (take k (drop a d)) → putMid a k d l ≡ sets d a (numbersOf s run)
+fives-stored s run w a d l R ew r k ek e =
+    let n = 5 * run .count in
+    let v = widthOf (run .limit) in
     let t = take k (drop a d) in
-    let long : length t ≡ 5 * count = part-long a k d (omega arith) ∙ ek in
-    let u = read-there s w limit (5 * count) p (zeros 5) h lp lw uw (omega arith) (omega arith) read in
+    let long : length t ≡ n = part-long a k d (omega arith) ∙ ek in
+    let u = read-there s v (run .limit) n (run .bit) (zeros 5) (R .short) (R .low) (width-some (run .limit) (R .some)) (width-small (run .limit) (omega (arith, R .most))) (omega arith) (omega (arith, R .vertices)) (R .read) in
     let m : length t % 5 ≡ 0 = omega (arith, long) in
-    let v = fives-yes s p w t m (rw long u) in
-    let i : l ≡ summed s w (5 * count) p (zeros 5) = e ∙ sym (v .1) ∙ ap (λ (n : ℕ). summed s w n p (zeros 5)) long in
-    part-put a k d l (ap length i ∙ length-summed s w (5 * count) p (zeros 5) ∙ sym ek) (omega arith) ∙ ap (sets d a) (i ∙ read-numbers s w limit (5 * count) p (zeros 5) lh read)
+    let f = fives-yes s (run .bit) v t m (rw long u) in
+    let i : l ≡ summed s v n (run .bit) (zeros 5) = e ∙ ap (λ (x : ℕ). fivesFilled s (run .bit) x t) ew ∙ sym (f .1) ∙ ap (λ (x : ℕ). summed s v x (run .bit) (zeros 5)) long in
+    part-put a k d l (ap length i ∙ length-summed s v n (run .bit) (zeros 5) ∙ sym ek) (omega arith) ∙ ap (sets d a) (i ∙ read-numbers s v (run .limit) n (run .bit) (zeros 5) (omega (arith, R .most)) (R .read))
 
 -- a run of points into the part of a buffer from place a on
-pub run-stored : (s : List ℕ) (run : Run) (w a : ℕ) (d l : List ℕ) → RunPlace s run → w ≡ widthOf (run .limit) → a + run .count ≤ length d
+pub run-stored : (s : List ℕ) (run : Run) (w a : ℕ) (d l : List ℕ) → PointsThere s run → w ≡ widthOf (run .limit) → a + run .count ≤ length d
     → (k : ℕ) → k ≡ run .count → l ≡ runFilled s (run .bit) w (zeros 1) (take k (drop a d)) → putMid a k d l ≡ sets d a (pointsOf s run)
 run-stored s run w a d l R ew r k ek e =
     let t = take k (drop a d) in
@@ -84,11 +84,3 @@ some-filled s run w from d l R ew h e =
     let uw : w ≤ 16 = rw ew (width-small (run .limit) (R .most)) in
     let u = there-yes s (run .bit) w (run .count) (R .short) lw uw (omega (arith, R .low)) (rw ew (R .whole)) in
     e ∙ sym (filled-yes s (run .bit) w (from ∷ []) t (rw long u)) ∙ rw (long, ew)
-
--- ---- a width as it was worked out, and as the layout has it
-
-pub read-at-width : (s : List ℕ) (w v limit n p : ℕ) (prior : List ℕ) (x : List ℕ × ℕ) → w ≡ v → readRun s w limit n p prior ≡ accepted x → WasRead (readRun s v limit n p prior)
-read-at-width s w v limit n p prior x e r = let z : readRun s v limit n p prior ≡ accepted x = ap (λ (k : ℕ). readRun s k limit n p prior) (sym e) ∙ r in rw z tt
-
-pub stored-at-width : (w v : ℕ) (f : ℕ → List ℕ) (e : List ℕ) → w ≡ v → e ≡ f v → e ≡ f w
-stored-at-width w v f e h k = k ∙ ap f (sym h)

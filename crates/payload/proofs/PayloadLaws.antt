@@ -7,7 +7,7 @@ use Prim.Native.Nat.{ℕ, _+_, _*_, _≤_, _<_}
 use native.Mathlib.Omega.{arith}
 use lib.ListN.{length}
 use lib.Dec.{leb, eqb}
-use borrow.Author.Tests.{le-leb, lt-leb, leb-true, eqb-true}
+use borrow.Author.Tests.{leb-true, eqb-true}
 use Rattle.bits.specs.Verdict.{Verdict, accepted, declined, andThen, mapped}
 use Rattle.bits.specs.Field.{field}
 use Rattle.bits.specs.Read.{numberAt, placeIn}

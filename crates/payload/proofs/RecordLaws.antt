@@ -6,21 +6,22 @@ use native.Mathlib.Omega.{arith}
 use lib.ListN.{length, length-append}
 use lib.Seq.{sets}
 use Rattle.bits.specs.Verdict.{accepted}
-use Rattle.bits.specs.Field.{field}
-use Rattle.bits.specs.Number.{widthOf}
 use Rattle.bits.specs.Header.{listEnd, headerAt}
 use Rattle.payload.specs.Mesh.{Submesh, Mesh}
 use Rattle.payload.specs.MeshSpells.{meshType}
-use Rattle.payload.specs.MeshRead.{many, readSubmesh, readMeshes, readFrom}
+use Rattle.payload.specs.MeshRead.{readMeshes, readFrom}
 use Rattle.payload.specs.MeshDrawing.{submeshRecords, pointCount, recordsFrom, drawnRecords, pointTotal}
-use Rattle.payload.specs.Internal.{WasRead, valueOr, submeshesRead, meshRead, boxRead, meshesFrom, recordWords, RecordRoom, afterRecords}
-use Rattle.payload.specs.declared.mesh.draw.Record.{Record}
-use Rattle.payload.specs.declared.mesh.draw.RecordPlace.{RecordPlace}
+use Rattle.payload.specs.Internal.{WasRead, valueOr, submeshesOf, Taken, meshRead, boxRead, meshesFrom, RecordRoom, afterRecords}
+use Rattle.payload.specs.declared.mesh.head.Head.{Head}
+use Rattle.payload.specs.declared.mesh.submeshes.Submeshes.{Submeshes}
+use Rattle.payload.specs.declared.mesh.submeshes.NextSubmesh.{NextSubmesh}
+use Rattle.payload.specs.declared.mesh.records.Record.{Record}
+use Rattle.payload.specs.declared.mesh.records.RecordPlace.{RecordPlace}
 use Rattle.payload.proofs.FillLaws.{sets-append}
 use Rattle.payload.proofs.StepLaws.{read-value}
 use Rattle.payload.proofs.MeasureLaws.{records-on, list-fits}
-use Rattle.payload.proofs.TurnLaws.{SubmeshTurn, turn-stored, box-skipped, BoxTurn, list-end}
-use Rattle.payload.proofs.DrawLaws.{MeshKnown}
+use Rattle.payload.proofs.TurnLaws.{taken-stored, box-skipped, BoxTurn, list-end}
+use Rattle.payload.proofs.HeadLaws.{HeadKnown}
 
 -- ---- submeshes
 
@@ -29,13 +30,12 @@ unfolding submeshRecords
 records-none number first l e = rw e
 
 -- the record of a submesh was stored, and the others' are left
-pub record-stored : (s : List ℕ) (w m left bit : ℕ) (x : Submesh) (r : Record) (d d′ : List ℕ) (o : ℕ) → SubmeshTurn s w m left bit (r .points) x
-    → r .texture ≡ field s bit 8 → r .mode ≡ field s (bit + 8) 8 → d′ ≡ sets d o (recordWords r)
-    → sets d o (submeshRecords (r .mesh) (r .first) (submeshesRead (many (readSubmesh s w m) left bit)))
-    ≡ sets d′ (o + 5) (submeshRecords (r .mesh) (r .first + r .points) (submeshesRead (many (readSubmesh s w m) (left - 1) (bit + (48 + r .points * w)))))
+pub record-stored : {s : List ℕ} {all : Submeshes} {r : NextSubmesh} → Taken s all r → (mesh first : ℕ) (d d′ : List ℕ) (at : ℕ)
+    → d′ ≡ sets d at (mesh ∷ r .texture ∷ r .mode ∷ first ∷ r .run .count ∷ [])
+    → sets d at (submeshRecords mesh first (submeshesOf s all)) ≡ sets d′ (at + 5) (submeshRecords mesh (first + r .run .count) (submeshesOf s (r .rest)))
 unfolding submeshRecords
-record-stored s w m left bit x r d d′ o t a b e =
-    turn-stored t (submeshRecords (r .mesh) (r .first)) (submeshRecords (r .mesh) (r .first + r .points)) (recordWords r) (λ l. rw (a ∙ t .texture, b ∙ t .mode, t .count)) d d′ o (o + 5) e refl
+record-stored {r = r} T mesh first d d′ at e =
+    taken-stored T (submeshRecords mesh first) (submeshRecords mesh (first + r .run .count)) (mesh ∷ r .texture ∷ r .mode ∷ first ∷ r .run .count ∷ []) (λ l. ap (λ (k : ℕ). mesh ∷ r .texture ∷ r .mode ∷ first ∷ k ∷ submeshRecords mesh (first + k) l) (sym (T .count))) d d′ at (at + 5) e refl
 
 -- ---- a mesh
 
@@ -43,36 +43,36 @@ one-record : (number first : ℕ) (x : Mesh) → recordsFrom number first (x ∷
 unfolding recordsFrom
 one-record number first x = append-nil (submeshRecords number first (x .submeshes))
 
-module _ {s : List ℕ} {n m w k first : ℕ} (K : MeshKnown s n m w k first) (to : RecordPlace) where
-  records-long : length (recordsFrom (to .mesh) (to .first) (meshRead s ∷ [])) ≡ 5 * k
+module _ {s : List ℕ} {h : Head} (K : HeadKnown s h) (to : RecordPlace) where
+  records-long : length (recordsFrom (to .mesh) (to .first) (meshRead s ∷ [])) ≡ 5 * h .submeshes .left
   records-long = records-on (to .mesh) (to .first) (meshRead s ∷ []) ∙ omega (arith, K .count)
 
-  points-are : pointTotal (meshRead s ∷ []) ≡ pointCount (submeshesRead (many (readSubmesh s (widthOf m) m) k first))
+  points-are : pointTotal (meshRead s ∷ []) ≡ pointCount (submeshesOf s (h .submeshes))
   points-are = ap (λ (l : List Submesh). pointCount l + 0) (sym (K .are)) ∙ omega arith
 
   pub record-room : (a : ℕ) → RecordRoom (meshRead s ∷ []) to a
-      → (to .off + 5 * k ≤ a) × (to .first + pointCount (submeshesRead (many (readSubmesh s (widthOf m) m) k first)) < 4294967296)
+      → (to .at + 5 * h .submeshes .left ≤ a) × (to .first + pointCount (submeshesOf s (h .submeshes)) < 4294967296)
   record-room a r = (omega (arith, r .records, records-long), omega (arith, r .points, points-are))
 
   -- the place after its records
-  pub record-placed : (f : ℕ) → f ≡ to .first + pointCount (submeshesRead (many (readSubmesh s (widthOf m) m) k first))
-      → _≡_ {A = RecordPlace} (record { mesh = to .mesh + 1; first = f; off = to .off + 5 * k }) (afterRecords to (meshRead s ∷ []))
+  pub record-placed : (f : ℕ) → f ≡ to .first + pointCount (submeshesOf s (h .submeshes))
+      → _≡_ {A = RecordPlace} (record { mesh = to .mesh + 1; first = f; at = to .at + 5 * h .submeshes .left }) (afterRecords to (meshRead s ∷ []))
   record-placed f e = rw (e, records-long, points-are)
 
-  pub mesh-recorded : (d d′ : List ℕ) → d′ ≡ sets d (to .off) (submeshRecords (to .mesh) (to .first) (submeshesRead (many (readSubmesh s (widthOf m) m) k first)))
-      → d′ ≡ sets d (to .off) (recordsFrom (to .mesh) (to .first) (meshRead s ∷ []))
+  pub mesh-recorded : (d d′ : List ℕ) → d′ ≡ sets d (to .at) (submeshRecords (to .mesh) (to .first) (submeshesOf s (h .submeshes)))
+      → d′ ≡ sets d (to .at) (recordsFrom (to .mesh) (to .first) (meshRead s ∷ []))
   mesh-recorded d d′ e = e ∙ rw (K .are, one-record (to .mesh) (to .first) (meshRead s))
 
 -- ---- boxes
 
 -- a box of another type leaves all as it was
 pub box-recorded-none : (s : List ℕ) (type body end : ℕ) → (type ≡ meshType → ⊥) → (to : RecordPlace) (d : List ℕ)
-    → (to ≡ afterRecords to (boxRead s type body end)) × (d ≡ sets d (to .off) (recordsFrom (to .mesh) (to .first) (boxRead s type body end)))
+    → (to ≡ afterRecords to (boxRead s type body end)) × (d ≡ sets d (to .at) (recordsFrom (to .mesh) (to .first) (boxRead s type body end)))
 unfolding recordsFrom
 box-recorded-none s type body end n to d =
     let x : to .mesh + 0 ≡ to .mesh = omega arith in
     let y : to .first + 0 ≡ to .first = omega arith in
-    let z : to .off + 0 ≡ to .off = omega arith in
+    let z : to .at + 0 ≡ to .at = omega arith in
     let i : boxRead s type body end ≡ [] = ap (valueOr []) (box-skipped s type body end n) in
     rw i (rw (x, y, z) refl, refl)
 
@@ -97,14 +97,14 @@ records-append number first (x ∷ a) b =
 
 -- what a loop that stores records keeps: storing the records that are left gives the same as storing all at first
 pub record RecordsLeft (s rec₀ rec : List ℕ) (at : ℕ) (to : RecordPlace) : Type 0 where
-  pub same : sets rec₀ 0 (drawnRecords (meshesFrom s 0)) ≡ sets rec (to .off) (recordsFrom (to .mesh) (to .first) (meshesFrom s at))
+  pub same : sets rec₀ 0 (drawnRecords (meshesFrom s 0)) ≡ sets rec (to .at) (recordsFrom (to .mesh) (to .first) (meshesFrom s at))
   pub read : WasRead (readFrom s at)
   pub room : RecordRoom (meshesFrom s at) to (length rec)
   pub long : length rec ≡ length rec₀
 
 -- at its start: meshes and points take a bit or more each, so that their numbers fit words
 pub records-start : (s rec : List ℕ) → length s ≤ 67108864 → WasRead (readMeshes s) → length (drawnRecords (meshesFrom s 0)) ≤ length rec
-    → RecordsLeft s rec rec 0 (record { mesh = 0; first = 0; off = 0 })
+    → RecordsLeft s rec rec 0 (record { mesh = 0; first = 0; at = 0 })
 records-start s rec h r l =
     let v = read-value (readMeshes s) r in
     let e : meshesFrom s 0 ≡ v .0 = ap (valueOr []) (v .1) in
@@ -114,7 +114,7 @@ records-start s rec h r l =
 module _ {s rec₀ rec : List ℕ} {at : ℕ} {to : RecordPlace} (L : RecordsLeft s rec₀ rec at to) where
   pub records-end : headerAt s at ≡ accepted listEnd → rec ≡ sets rec₀ 0 (drawnRecords (meshesFrom s 0))
   unfolding recordsFrom
-  records-end h = sym (L .same ∙ ap (λ (l : List Mesh). sets rec (to .off) (recordsFrom (to .mesh) (to .first) l)) (list-end s at h))
+  records-end h = sym (L .same ∙ ap (λ (l : List Mesh). sets rec (to .at) (recordsFrom (to .mesh) (to .first) l)) (list-end s at h))
 
   module _ (type body end : ℕ) (T : BoxTurn s at type body end) where
     records-are : recordsFrom (to .mesh) (to .first) (meshesFrom s at)
@@ -135,12 +135,12 @@ module _ {s rec₀ rec : List ℕ} {at : ℕ} {to : RecordPlace} (L : RecordsLef
     records-room =
         record { records = omega (arith, L .room .records, records-sum); meshes = omega (arith, L .room .meshes, meshes-sum); points = omega (arith, L .room .points, points-sum) }
 
-    pub records-on-box : (rec′ : List ℕ) (to′ : RecordPlace) → length rec′ ≡ length rec → rec′ ≡ sets rec (to .off) (recordsFrom (to .mesh) (to .first) (boxRead s type body end))
+    pub records-on-box : (rec′ : List ℕ) (to′ : RecordPlace) → length rec′ ≡ length rec → rec′ ≡ sets rec (to .at) (recordsFrom (to .mesh) (to .first) (boxRead s type body end))
         → to′ ≡ afterRecords to (boxRead s type body end) → RecordsLeft s rec₀ rec′ end to′
     records-on-box rec′ to′ a c e =
         rw e
         (record {
-          same = L .same ∙ rw (records-are, c) (sets-append (recordsFrom (to .mesh) (to .first) (boxRead s type body end)) _ rec (to .off));
+          same = L .same ∙ rw (records-are, c) (sets-append (recordsFrom (to .mesh) (to .first) (boxRead s type body end)) _ rec (to .at));
           read = T .rest;
           room = record { records = omega (arith, L .room .records, records-sum); meshes = omega (arith, L .room .meshes, meshes-sum); points = omega (arith, L .room .points, points-sum) };
           long = a ∙ L .long;

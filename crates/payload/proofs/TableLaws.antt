@@ -5,24 +5,24 @@ use mathlib.Core.List.{List, [], _∷_}
 use native.Mathlib.Omega.{arith}
 use lib.ListN.{length, set, length-append}
 use lib.Seq.{sets}
-use Rattle.bits.specs.Verdict.{Verdict, accepted, declined, mapped, andThen}
+use Rattle.bits.specs.Verdict.{Verdict, accepted, declined, mapped}
 use Rattle.bits.specs.Field.{field}
 use Rattle.bits.proofs.VerdictLaws.{then-yes, then-no, mapped-value, mapped-declined}
 use Rattle.payload.specs.Mesh.{Submesh, Mesh}
-use Rattle.bits.specs.Run.{zeros, readRun}
 use Rattle.payload.specs.MeshSpells.{meshVertices}
-use Rattle.payload.specs.MeshRead.{many, readSubmesh, readWords, readMesh}
+use Rattle.payload.specs.MeshRead.{readWords, readMesh}
 use Rattle.payload.specs.MeshDrawing.{pointCount}
-use Rattle.payload.specs.Internal.{WasRead, runNumbers, submeshesRead, meshRead, bodySize}
+use Rattle.payload.specs.Internal.{WasRead, pointsOf, submeshesOf, Taken, meshRead, bodySize}
+use Rattle.payload.specs.declared.mesh.submeshes.Submeshes.{Submeshes}
+use Rattle.payload.specs.declared.mesh.submeshes.NextSubmesh.{NextSubmesh}
 use Rattle.payload.specs.Tables.{submeshRows, allPoints, poolTable, coordinateTable, submeshTable, pointTable, tableLengths, bodyRead}
 use Rattle.payload.specs.declared.mesh.measure.TableLengths.{TableLengths}
-use Rattle.payload.proofs.FillLaws.{sets-after}
 use Rattle.bits.proofs.VerdictLaws.{limited-yes, limited-no}
 use Rattle.payload.proofs.PayloadLaws.{limited-value}
 use Rattle.payload.proofs.StepLaws.{was-read, read-value}
 use Rattle.payload.proofs.RangeLaws.{words-length}
 use Rattle.payload.proofs.MeshReadLaws.{MeshParts, mesh-parts, mesh-spells}
-use Rattle.payload.proofs.TurnLaws.{SubmeshTurn, turn-stored, mesh-is}
+use Rattle.payload.proofs.TurnLaws.{taken-points, taken-stored, mesh-is}
 
 -- the same list stored
 pub stored-same : (d e l m : List ℕ) → e ≡ sets d 0 l → l ≡ m → e ≡ sets d 0 m
@@ -72,29 +72,24 @@ unfolding allPoints
 points-length [] = refl
 points-length (x ∷ l) = length-append (x .points) (allPoints l) ∙ ap (λ (k : ℕ). length (x .points) + k) (points-length l)
 
--- ---- the first of n submeshes, whose point count is k
+-- ---- the first of some submeshes was taken
 
-module _ {s : List ℕ} {w m n p k : ℕ} {x : Submesh} (T : SubmeshTurn s w m n p k x) (d e : List ℕ) (o : ℕ) where
+module _ {s : List ℕ} {all : Submeshes} {r : NextSubmesh} (T : Taken s all r) where
   -- its row was stored, and the others' are left
-  pub row-turn : (a b : ℕ) → a ≡ field s p 8 → b ≡ field s (p + 8) 8 → e ≡ sets d o (a ∷ b ∷ k ∷ [])
-      → sets d o (submeshRows (submeshesRead (many (readSubmesh s w m) n p)))
-      ≡ sets e (o + 3) (submeshRows (submeshesRead (many (readSubmesh s w m) (n - 1) (p + (48 + k * w)))))
+  pub row-stored : (d d′ : List ℕ) (at : ℕ) → d′ ≡ sets d at (r .texture ∷ r .mode ∷ r .run .count ∷ [])
+      → sets d at (submeshRows (submeshesOf s all)) ≡ sets d′ (at + 3) (submeshRows (submeshesOf s (r .rest)))
   unfolding submeshRows
-  row-turn a b ea eb h =
-      turn-stored T submeshRows submeshRows (x .texture ∷ x .mode ∷ length (x .points) ∷ []) (λ l. refl) d e o (o + 3) (rw (← T .texture, ← T .mode, ← T .count, ← ea, ← eb) h) refl
+  row-stored d d′ at e = taken-stored T submeshRows submeshRows (r .texture ∷ r .mode ∷ r .run .count ∷ []) (λ l. ap (λ (k : ℕ). r .texture ∷ r .mode ∷ k ∷ submeshRows l) (sym (T .count))) d d′ at (at + 3) e refl
 
   -- its points were stored, and the others' are left
-  pub points-turn : e ≡ sets d o (runNumbers (readRun s w m k (p + 48) (zeros 1)))
-      → sets d o (allPoints (submeshesRead (many (readSubmesh s w m) n p)))
-      ≡ sets e (o + k) (allPoints (submeshesRead (many (readSubmesh s w m) (n - 1) (p + (48 + k * w)))))
+  pub points-stored : (d d′ : List ℕ) (at : ℕ) → d′ ≡ sets d at (pointsOf s (r .run))
+      → sets d at (allPoints (submeshesOf s all)) ≡ sets d′ (at + r .run .count) (allPoints (submeshesOf s (r .rest)))
   unfolding allPoints
-  points-turn h = turn-stored T allPoints allPoints (x .points) (λ l. refl) d e o (o + k) (h ∙ rw (T .run)) (omega (arith, T .count))
+  points-stored d d′ at e = taken-stored T allPoints allPoints (pointsOf s (r .run)) (λ l. refl) d d′ at (at + r .run .count) e (omega (arith, T .count))
 
--- how many points all of them have
-pub points-split : {s : List ℕ} {w m n p k : ℕ} {x : Submesh} → SubmeshTurn s w m n p k x
-    → length (allPoints (submeshesRead (many (readSubmesh s w m) n p))) ≡ k + length (allPoints (submeshesRead (many (readSubmesh s w m) (n - 1) (p + (48 + k * w)))))
-unfolding allPoints
-points-split {x = x} T = rw (T .is, T .count) (length-append (x .points) _)
+  -- how many points all of them have
+  pub points-split : length (allPoints (submeshesOf s all)) ≡ r .run .count + length (allPoints (submeshesOf s (r .rest)))
+  points-split = points-length (submeshesOf s all) ∙ taken-points T ∙ ap (λ (k : ℕ). r .run .count + k) (sym (points-length (submeshesOf s (r .rest))))
 
 -- ---- a mesh that was read
 

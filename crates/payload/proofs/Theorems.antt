@@ -1,6 +1,6 @@
 -- The theorems of this crate that crates above may cite: what specs/ states under a name, and laws of the definitions
 -- that theirs are made of. Assumes nothing.
-use Prim.Native.Nat.{ℕ, _+_, _*_, _≤_, _<_}
+use Prim.Native.Nat.{ℕ, _+_, _*_, _≤_}
 use mathlib.Core.Path.{_≡_}
 use mathlib.Core.Bool.{true}
 use mathlib.Core.List.{List, _++_}

@@ -12,7 +12,6 @@ use Rattle.bits.specs.Field.{field}
 use Rattle.bits.specs.Number.{widthOf}
 use Rattle.bits.specs.Header.{listEnd, box, headerAt}
 use Rattle.bits.proofs.VerdictLaws.{then-value, mapped-value, mapped-declined}
-use Rattle.bits.proofs.NumberLaws.{width-least}
 use Rattle.bits.specs.Verdict.{limited}
 use Rattle.payload.specs.Mesh.{Submesh, Mesh}
 use Rattle.bits.specs.Run.{zeros, Found, readRun}
@@ -20,7 +19,9 @@ use Rattle.payload.specs.MeshSpells.{headerBytes, meshType, part}
 use Rattle.payload.specs.MeshRead.{many, readSubmesh, readMesh, readFrom, readMeshes}
 use Rattle.payload.specs.MeshDrawing.{pointCount, drawnNumbers, drawnFloats, drawnRecords}
 use Rattle.payload.specs.Meshes.{listSize}
-use Rattle.payload.specs.Internal.{WasRead, valueOr, submeshesRead, meshRead, boxMeshes, boxRead, meshesFrom}
+use Rattle.payload.specs.Internal.{WasRead, valueOr, runNumbers, submeshesRead, SubmeshesThere, submeshesOf, takenSubmesh, Taken, meshRead, boxMeshes, boxRead, meshesFrom}
+use Rattle.payload.specs.declared.mesh.submeshes.Submeshes.{Submeshes}
+use Rattle.payload.specs.declared.mesh.submeshes.NextSubmesh.{NextSubmesh}
 use Rattle.payload.specs.declared.mesh.measure.MeshListSize.{MeshListSize}
 use Rattle.payload.proofs.FillLaws.{sets-after}
 use Rattle.payload.proofs.PayloadLaws.{limited-value, limited-mapped}
@@ -34,15 +35,15 @@ use Rattle.payload.proofs.CheckLaws.{run-fits}
 -- ---- submeshes
 
 -- the first of n submeshes from bit p on, whose point count is k
-pub record SubmeshTurn (s : List ℕ) (w m n p k : ℕ) (x : Submesh) : Type 0 where
+record SubmeshTurn (s : List ℕ) (w m n p k : ℕ) (x : Submesh) : Type 0 where
   pub texture : field s p 8 ≡ x .texture
   pub mode : field s (p + 8) 8 ≡ x .mode
   pub count : k ≡ length (x .points)
   pub some : 1 ≤ k
   pub ends : p + 48 + k * w ≤ 8 * length s
   pub run : readRun s w m k (p + 48) (zeros 1) ≡ accepted (x .points, p + 48 + k * w)
-  pub is : submeshesRead (many (readSubmesh s w m) n p) ≡ x ∷ submeshesRead (many (readSubmesh s w m) (n - 1) (p + (48 + k * w)))
-  pub rest : WasRead (many (readSubmesh s w m) (n - 1) (p + (48 + k * w)))
+  pub is : submeshesRead (many (readSubmesh s w m) n p) ≡ x ∷ submeshesRead (many (readSubmesh s w m) (n - 1) (p + 48 + k * w))
+  pub rest : WasRead (many (readSubmesh s w m) (n - 1) (p + 48 + k * w))
 
 first-read : {A : Type 0} (read : ℕ → Found A) (n p : ℕ) → WasRead (many read (suc n) p) → (a : A) × (q : ℕ) × (read p ≡ accepted (a, q))
 unfolding many
@@ -73,7 +74,8 @@ module _ (s : List ℕ) (w m : ℕ) where
           let e = many-on (readSubmesh s w m) n p x q d in
           let b = tail-read x (many (readSubmesh s w m) n q) (rw e at r) in
           let g : k ≡ length (x .points) = c ∙ f .0 .count in
-          let i : q ≡ p + (48 + k * w) = rw g (f .1) in (
+          let j : q ≡ p + (48 + k * w) = rw g (f .1) in
+          let i : q ≡ p + 48 + k * w = omega arith in (
             x,
             record {
               texture = f .0 .texture;
@@ -87,41 +89,74 @@ module _ (s : List ℕ) (w m : ℕ) where
             },
           )
 
-pub submeshes-end : (s : List ℕ) (w m n p : ℕ) → n ≤ 0 → submeshesRead (many (readSubmesh s w m) n p) ≡ []
+-- what taking the first of some submeshes tells
+pub taken : (s : List ℕ) (all : Submeshes) (a b k w : ℕ) → SubmeshesThere s all → 1 ≤ all .left → a ≡ field s (all .bit) 8 → b ≡ field s (all .bit + 8) 8
+    → k ≡ field s (all .bit + 16) 32 → w ≡ widthOf (all .vertices)
+    → Taken s all
+    (record {
+      texture = a;
+      mode = b;
+      run = record { bit = all .bit + 48; limit = all .vertices; count = k };
+      rest = record { bit = all .bit + 48 + k * w; vertices = all .vertices; left = all .left - 1 };
+    })
+taken s all a b k w S o ea eb ek ew = rw ew (go (submesh-turn s v m (all .left) (all .bit) k (omega arith) (S .read) ek))
+  where
+    m : ℕ
+    m = all .vertices
+
+    v : ℕ
+    v = widthOf (all .vertices)
+
+    go : (x : Submesh) × SubmeshTurn s v m (all .left) (all .bit) k x
+        → Taken s all
+        (record {
+          texture = a;
+          mode = b;
+          run = record { bit = all .bit + 48; limit = m; count = k };
+          rest = record { bit = all .bit + 48 + k * v; vertices = m; left = all .left - 1 };
+        })
+    go (x, T) =
+        let p : runNumbers (readRun s v m k (all .bit + 48) (zeros 1)) ≡ x .points = ap runNumbers (T .run) in
+        let e : x ≡ record { texture = a; mode = b; points = runNumbers (readRun s v m k (all .bit + 48) (zeros 1)) } =
+        λ i. record { texture = (sym (T .texture) ∙ sym ea) i; mode = (sym (T .mode) ∙ sym eb) i; points = sym p i } in
+        record {
+          is = T .is ∙ rw e;
+          run = record { short = S .short; low = omega (arith, S .low); some = S .some; most = S .most; points = T .some; read = rw (T .run) tt };
+          rest = record { short = S .short; low = omega (arith, S .low); some = S .some; most = S .most; read = T .rest };
+          count = T .count ∙ ap length (sym p);
+          limit = refl;
+          vertices = refl;
+          left = omega arith;
+        }
+
+-- the head of the first submesh, and all its points, lie inside
+pub head-inside : (s : List ℕ) (all : Submeshes) → SubmeshesThere s all → 1 ≤ all .left → all .bit + 48 ≤ 8 * length s
+head-inside s all S o =
+    let t = submesh-turn s (widthOf (all .vertices)) (all .vertices) (all .left) (all .bit) (field s (all .bit + 16) 32) (omega arith) (S .read) refl in
+    omega (arith, t .1 .ends)
+
+pub points-inside : (s : List ℕ) (all : Submeshes) (k w : ℕ) → SubmeshesThere s all → 1 ≤ all .left → k ≡ field s (all .bit + 16) 32 → w ≡ widthOf (all .vertices)
+    → all .bit + 48 + k * w ≤ 8 * length s
+points-inside s all k w S o ek ew = rw ew (submesh-turn s (widthOf (all .vertices)) (all .vertices) (all .left) (all .bit) k (omega arith) (S .read) ek .1 .ends)
+
+pub none-left : (s : List ℕ) (all : Submeshes) → all .left ≤ 0 → submeshesOf s all ≡ []
 unfolding many
-submeshes-end s w m zero p h = refl
-submeshes-end s w m (suc n) p h = absurd (omega arith)
+none-left s all h = go (all .left) h
+  where
+    go : (n : ℕ) → n ≤ 0 → submeshesRead (many (readSubmesh s (widthOf (all .vertices)) (all .vertices)) n (all .bit)) ≡ []
+    go zero h = refl
+    go (suc n) h = absurd (omega arith)
 
-pub points-first : (x : Submesh) (l m : List Submesh) → l ≡ x ∷ m → pointCount l ≡ length (x .points) + pointCount m
-points-first x l m e = rw e
+module _ {s : List ℕ} {all : Submeshes} {r : NextSubmesh} (T : Taken s all r) where
+  -- how many points all of them have
+  pub taken-points : pointCount (submeshesOf s all) ≡ r .run .count + pointCount (submeshesOf s (r .rest))
+  taken-points = ap pointCount (T .is) ∙ omega (arith, T .count)
 
--- what a loop over submeshes knows of those that are left
-pub record SubmeshesLeft (s : List ℕ) (w m left bit : ℕ) : Type 0 where
-  pub read : WasRead (many (readSubmesh s w m) left bit)
-  pub narrow : w ≤ 17
-  pub most : m ≤ 65536
-  pub low : 64 ≤ bit
-
--- at its start
-pub submeshes-left : (s : List ℕ) (w m left bit : ℕ) → w ≡ widthOf m → m ≤ 65536 → 64 ≤ bit → WasRead (many (readSubmesh s (widthOf m) m) left bit) → SubmeshesLeft s w m left bit
-submeshes-left s w m left bit e h l r = record { read = rw e r; narrow = rw e (width-least m 17 (omega arith)); most = h; low = l }
-
-module _ {s : List ℕ} {w m left bit : ℕ} (L : SubmeshesLeft s w m left bit) where
-  pub left-turn : (k : ℕ) → 0 < left → k ≡ field s (bit + 16) 32 → (x : Submesh) × SubmeshTurn s w m left bit k x
-  left-turn k o e = submesh-turn s w m left bit k o (L .read) e
-
-  -- the header of the next submesh lies inside
-  pub left-room : 0 < left → bit + 48 ≤ 8 * length s
-  left-room o = let t = left-turn (field s (bit + 16) 32) o refl in omega (arith, t .1 .ends)
-
-  pub left-on : (k : ℕ) (x : Submesh) → SubmeshTurn s w m left bit k x → SubmeshesLeft s w m (left - 1) (bit + (48 + k * w))
-  left-on k x t = record { read = t .rest; narrow = L .narrow; most = L .most; low = omega (arith, L .low) }
-
--- what the first submesh gives was stored, and what the others give is left
-pub turn-stored : {s : List ℕ} {w m n p k : ℕ} {x : Submesh} → SubmeshTurn s w m n p k x → (f g : List Submesh → List ℕ) (words : List ℕ) → ((l : List Submesh) → f (x ∷ l) ≡ words ++ g l)
-    → (d d′ : List ℕ) (o t : ℕ) → d′ ≡ sets d o words → o + length words ≡ t
-    → sets d o (f (submeshesRead (many (readSubmesh s w m) n p))) ≡ sets d′ t (g (submeshesRead (many (readSubmesh s w m) (n - 1) (p + (48 + k * w)))))
-turn-stored T f g words c d d′ o t e h = rw e (ap (λ (l : List Submesh). sets d o (f l)) (T .is) ∙ ap (sets d o) (c _) ∙ sets-after words (g _) d o t h)
+  -- what the submesh that was taken gives was stored, and what the others give is left
+  pub taken-stored : (f g : List Submesh → List ℕ) (words : List ℕ) → ((l : List Submesh) → f (takenSubmesh s r ∷ l) ≡ words ++ g l) → (d d′ : List ℕ) (at to : ℕ)
+      → d′ ≡ sets d at words → at + length words ≡ to → sets d at (f (submeshesOf s all)) ≡ sets d′ to (g (submeshesOf s (r .rest)))
+  taken-stored f g words c d d′ at to e h =
+      rw e (ap (λ (l : List Submesh). sets d at (f l)) (T .is) ∙ ap (sets d at) (c _) ∙ sets-after words (g _) d at to h)
 
 -- ---- the mesh of a body, and boxes
 

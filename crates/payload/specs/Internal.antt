@@ -1,5 +1,5 @@
 -- What the contracts of private functions of the mesh reader cite. No promise of a public call leans on these.
-use Prim.Native.Nat.{ℕ, zero, suc, _+_, _*_, _%_, _≤_, _<_}
+use Prim.Native.Nat.{ℕ, zero, suc, _+_, _*_, _≤_, _<_}
 use mathlib.Core.Bool.{cond}
 use lib.Dec.{eqb}
 use lib.ListN.{length, getD}
@@ -12,12 +12,14 @@ use Rattle.payload.specs.Mesh.{Submesh, Mesh}
 use Rattle.bits.specs.Run.{zeros, Found, readRun, summed}
 use Rattle.bits.specs.declared.fields.runs.Run.{Run}
 use Rattle.payload.specs.MeshSpells.{meshVertices, part, meshType, aligned, verticesAt}
-use Rattle.payload.specs.MeshRead.{readMesh, readFrom}
+use Rattle.payload.specs.MeshRead.{many, readSubmesh, readMesh, readFrom}
 use Rattle.payload.specs.MeshDrawing.{pointCount, pointTotal, drawnNumbers, drawnFloats, recordsFrom}
-use Rattle.payload.specs.declared.mesh.Head.{Head}
-use Rattle.payload.specs.declared.mesh.draw.Place.{Place}
-use Rattle.payload.specs.declared.mesh.draw.Record.{Record}
-use Rattle.payload.specs.declared.mesh.draw.RecordPlace.{RecordPlace}
+use Rattle.payload.specs.declared.mesh.head.Head.{Head}
+use Rattle.payload.specs.declared.mesh.draw.DrawPlace.{DrawPlace}
+use Rattle.payload.specs.declared.mesh.submeshes.Submeshes.{Submeshes}
+use Rattle.payload.specs.declared.mesh.submeshes.NextSubmesh.{NextSubmesh}
+use Rattle.payload.specs.declared.mesh.records.Record.{Record}
+use Rattle.payload.specs.declared.mesh.records.RecordPlace.{RecordPlace}
 use Rattle.payload.specs.declared.mesh.measure.SubmeshEnd.{SubmeshEnd}
 use Rattle.payload.specs.declared.mesh.measure.SubmeshEnd.the-variants as E
 use Rattle.payload.specs.declared.mesh.measure.SubmeshesSize.{SubmeshesSize}
@@ -44,8 +46,22 @@ valueOr a (declined k) = a
 abbrev pub runNumbers : Found (List ℕ) → List ℕ
 runNumbers v = valueOr ([], 0) v .0
 
--- a run of vertex numbers, below their limit, at a place of a body that is known to be read there
-pub record RunPlace (s : List ℕ) (run : Run) : Type 0 where
+-- ---- what is known of a body that was read
+
+-- the run of its vertices
+pub record VerticesThere (s : List ℕ) (run : Run) : Type 0 where
+  pub short : length s ≤ 67108864
+  pub low : 64 ≤ run .bit
+  pub some : 1 ≤ run .limit
+  pub most : run .limit ≤ 10000
+  pub vertices : 1 ≤ run .count
+  pub read : WasRead (readRun s (widthOf (run .limit)) (run .limit) (5 * run .count) (run .bit) (zeros 5))
+
+abbrev pub numbersOf : List ℕ → Run → List ℕ
+numbersOf s run = runNumbers (readRun s (widthOf (run .limit)) (run .limit) (5 * run .count) (run .bit) (zeros 5))
+
+-- a run of points
+pub record PointsThere (s : List ℕ) (run : Run) : Type 0 where
   pub short : length s ≤ 67108864
   pub low : 64 ≤ run .bit
   pub some : 1 ≤ run .limit
@@ -55,6 +71,36 @@ pub record RunPlace (s : List ℕ) (run : Run) : Type 0 where
 
 abbrev pub pointsOf : List ℕ → Run → List ℕ
 pointsOf s run = runNumbers (readRun s (widthOf (run .limit)) (run .limit) (run .count) (run .bit) (zeros 1))
+
+-- the submeshes that were read; none where they were refused
+abbrev pub submeshesRead : Found (List Submesh) → List Submesh
+submeshesRead v = valueOr ([], 0) v .0
+
+-- some of its submeshes
+pub record SubmeshesThere (s : List ℕ) (all : Submeshes) : Type 0 where
+  pub short : length s ≤ 67108864
+  pub low : 64 ≤ all .bit
+  pub some : 1 ≤ all .vertices
+  pub most : all .vertices ≤ 32000
+  pub read : WasRead (many (readSubmesh s (widthOf (all .vertices)) (all .vertices)) (all .left) (all .bit))
+
+abbrev pub submeshesOf : List ℕ → Submeshes → List Submesh
+submeshesOf s all =
+    submeshesRead (many (readSubmesh s (widthOf (all .vertices)) (all .vertices)) (all .left) (all .bit))
+
+-- the submesh that was taken
+abbrev pub takenSubmesh : List ℕ → NextSubmesh → Submesh
+takenSubmesh s r = record { texture = r .texture; mode = r .mode; points = pointsOf s (r .run) }
+
+-- the first of some submeshes was taken
+pub record Taken (s : List ℕ) (all : Submeshes) (r : NextSubmesh) : Type 0 where
+  pub is : submeshesOf s all ≡ takenSubmesh s r ∷ submeshesOf s (r .rest)
+  pub run : PointsThere s (r .run)
+  pub rest : SubmeshesThere s (r .rest)
+  pub count : r .run .count ≡ length (pointsOf s (r .run))
+  pub limit : r .run .limit ≡ all .vertices
+  pub vertices : r .rest .vertices ≡ all .vertices
+  pub left : r .rest .left + 1 ≡ all .left
 
 -- ---- what the validating pass keeps of what was read
 
@@ -167,7 +213,7 @@ PointsBelow m points = (i : ℕ) → i < length points → getD points i 0 < m
 
 -- they are there as long as nothing was stored at their place or after it
 abbrev pub ExpandedFrom : ℕ → List ℕ → List ℕ → ℕ → ℕ → List ℕ → ℕ → Type 0
-ExpandedFrom off s numbers base n words expanded = off < expanded → Expanded s numbers base n words expanded
+ExpandedFrom at s numbers base n words expanded = at < expanded → Expanded s numbers base n words expanded
 
 -- how many of those that are left are drawn at once
 pub record SomeOf (left r : ℕ) : Type 0 where
@@ -188,11 +234,7 @@ pub record SomeRun (s : List ℕ) (run : Run) : Type 0 where
 abbrev pub someNumbers : List ℕ → Run → ℕ → List ℕ
 someNumbers s run from = summed s (widthOf (run .limit)) (run .count) (run .bit) (from ∷ [])
 
--- the submeshes, the mesh of a body, the meshes of a box, and those from a byte on that were read; none where they were
--- refused
-abbrev pub submeshesRead : Found (List Submesh) → List Submesh
-submeshesRead v = valueOr ([], 0) v .0
-
+-- the mesh of a body, the meshes of a box, and those from a byte on that were read; none where they were refused
 abbrev pub meshRead : List ℕ → Mesh
 meshRead s = valueOr (record { pool = []; vertices = []; submeshes = [] }, 0) (readMesh s) .0
 
@@ -206,28 +248,34 @@ boxRead s type body end = valueOr [] (boxMeshes s type body end)
 abbrev pub meshesFrom : List ℕ → ℕ → List Mesh
 meshesFrom s p = valueOr [] (readFrom s p)
 
+-- where the submesh count stands, after the vertices
+abbrev pub submeshCountAt : Run → ℕ
+submeshCountAt run = aligned (verticesAt (run .limit) + 5 * run .count * widthOf (run .limit))
+
 -- the counts and places of a mesh body
 pub record HeadOf (s : List ℕ) (h : Head) : Type 0 where
-  pub n-is : h .coordinates ≡ field s 0 32
-  pub m-is : h .vertices ≡ field s (32 * h .coordinates + 32) 32
-  pub w-is : h .width ≡ widthOf (h .coordinates)
-  pub first-is : h .first ≡ aligned (verticesAt (h .coordinates) + 5 * h .vertices * h .width) + 32
-  pub k-is : h .submeshes ≡ field s (aligned (verticesAt (h .coordinates) + 5 * h .vertices * h .width)) 32
+  pub pool : h .vertices .limit ≡ field s 0 32
+  pub start : h .vertices .bit ≡ verticesAt (h .vertices .limit)
+  pub count : h .vertices .count ≡ field s (32 * h .vertices .limit + 32) 32
+  pub vertices : h .submeshes .vertices ≡ h .vertices .count
+  pub first : h .submeshes .bit ≡ submeshCountAt (h .vertices) + 32
+  pub left : h .submeshes .left ≡ field s (submeshCountAt (h .vertices)) 32
 
 -- the numbers and words of some meshes fit into buffers of n and f elements
-pub record FillRoom (l : List Mesh) (to : Place) (n f : ℕ) : Type 0 where
-  pub numbers : to .base + length (drawnNumbers l) ≤ n
-  pub floats : to .off + length (drawnFloats l) ≤ f
+pub record FillRoom (l : List Mesh) (to : DrawPlace) (n f : ℕ) : Type 0 where
+  pub numbers : to .numbers + length (drawnNumbers l) ≤ n
+  pub floats : to .floats + length (drawnFloats l) ≤ f
 
-abbrev pub afterMeshes : Place → List Mesh → Place
-afterMeshes to l = record { base = to .base + length (drawnNumbers l); off = to .off + length (drawnFloats l) }
+abbrev pub afterMeshes : DrawPlace → List Mesh → DrawPlace
+afterMeshes to l =
+    record { numbers = to .numbers + length (drawnNumbers l); floats = to .floats + length (drawnFloats l) }
 
 abbrev pub recordWords : Record → List ℕ
 recordWords r = r .mesh ∷ r .texture ∷ r .mode ∷ r .first ∷ r .points ∷ []
 
 -- the records of some meshes fit into a buffer of n elements, and their numbers into words
 pub record RecordRoom (l : List Mesh) (to : RecordPlace) (n : ℕ) : Type 0 where
-  pub records : to .off + length (recordsFrom (to .mesh) (to .first) l) ≤ n
+  pub records : to .at + length (recordsFrom (to .mesh) (to .first) l) ≤ n
   pub meshes : to .mesh + length l < 4294967296
   pub points : to .first + pointTotal l < 4294967296
 
@@ -236,5 +284,5 @@ afterRecords to l =
     record {
       mesh = to .mesh + length l;
       first = to .first + pointTotal l;
-      off = to .off + length (recordsFrom (to .mesh) (to .first) l);
+      at = to .at + length (recordsFrom (to .mesh) (to .first) l);
     }

@@ -10,8 +10,8 @@ use Rattle.payload.specs.MeshRead.{readMeshes}
 use Rattle.payload.specs.MeshDrawing.{drawnNumbers, drawnFloats, drawnRecords, submeshTotal, pointTotal}
 use Rattle.payload.specs.declared.mesh.draw.MeshesAnswer.{MeshesAnswer}
 use Rattle.payload.specs.declared.mesh.draw.MeshesAnswer.the-variants as D
-use Rattle.payload.specs.declared.mesh.draw.RecordsAnswer.{RecordsAnswer}
-use Rattle.payload.specs.declared.mesh.draw.RecordsAnswer.the-variants as R
+use Rattle.payload.specs.declared.mesh.records.RecordsAnswer.{RecordsAnswer}
+use Rattle.payload.specs.declared.mesh.records.RecordsAnswer.the-variants as R
 use Rattle.payload.specs.declared.mesh.measure.MeshListSize.{MeshListSize}
 use Rattle.payload.specs.declared.mesh.measure.Measured.{Measured}
 use Rattle.payload.specs.declared.mesh.measure.Measured.the-variants as M

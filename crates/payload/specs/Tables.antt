@@ -10,8 +10,8 @@ use Rattle.payload.specs.MeshRead.{readMesh}
 use Rattle.payload.specs.declared.mesh.measure.TableLengths.{TableLengths}
 use Rattle.payload.specs.declared.mesh.measure.MeshMeasured.{MeshMeasured}
 use Rattle.payload.specs.declared.mesh.measure.MeshMeasured.the-variants as M
-use Rattle.payload.specs.declared.mesh.tables.MeshAnswer.{MeshAnswer}
-use Rattle.payload.specs.declared.mesh.tables.MeshAnswer.the-variants as A
+use Rattle.payload.specs.declared.mesh.tables.TablesAnswer.{TablesAnswer}
+use Rattle.payload.specs.declared.mesh.tables.TablesAnswer.the-variants as A
 
 -- ---- the four lists of a mesh: its pool, its coordinate numbers, and these two
 
@@ -66,7 +66,7 @@ tablesOf x =
 abbrev pub tablesPlan : List ℕ → Verdict (Plan TableLengths)
 tablesPlan s = mapped tablesOf (bodyRead s)
 
-abbrev pub tablesSays : MeshAnswer → Verdict TableLengths
+abbrev pub tablesSays : TablesAnswer → Verdict TableLengths
 tablesSays (A.Tables n) = accepted n
 tablesSays (A.Needs n) = needs (n .pool ∷ n .coordinates ∷ n .submeshes ∷ n .points ∷ [])
 tablesSays (A.Declined k) = declined k

@@ -26,57 +26,57 @@ fn cells_usable(cells: u32) -> bool
 // ---- triangles
 
 // The two triangles of a cell with a and b in one row of the grid and c and d in the next, stride vertices on.
-fn put_cell(a: u16, stride: u16, w: usize, out: &mut [u16])
-    requires { ⌜ (a + stride + 1 < 65536) × (w + 6 ≤ length (now out)) ⌝ }
-    ensures { λ _. ⌜ now (out .exit) ≡ sets (now (out .entry)) w (cellOf a stride) ⌝ }
+fn put_cell(a: u16, stride: u16, at: usize, out: &mut [u16])
+    requires { ⌜ (a + stride + 1 < 65536) × (at + 6 ≤ length (now out)) ⌝ }
+    ensures { λ _. ⌜ now (out .exit) ≡ sets (now (out .entry)) at (cellOf a stride) ⌝ }
 {
     let b = a + 1;
     let c = a + stride;
     let d = c + 1;
-    put_triangle(out, w, a, d, c);
-    put_triangle(out, w + 3, a, b, d);
+    put_triangle(out, at, a, d, c);
+    put_triangle(out, at + 3, a, b, d);
 }
 
 // A row of cells, from out[at] on. The answer is the place after it, here and below.
 fn index_row(cells: u32, face: u32, y: u32, at: usize, out: &mut [u16]) -> usize
     requires { ⌜ (cells ≤ 103) × (face < 6) × (y < cells) × (at + length (cubeRow cells face y) ≤ length (now out)) ⌝ }
-    ensures { λ r. ⌜ r ≡ at + length (cubeRow cells face y) ⌝ }
-    ensures { λ _. ⌜ now (out .exit) ≡ sets (now (out .entry)) at (cubeRow cells face y) ⌝ }
+    ensures place { λ r. ⌜ r ≡ at + length (cubeRow cells face y) ⌝ }
+    ensures numbers { λ _. ⌜ now (out .exit) ≡ sets (now (out .entry)) at (cubeRow cells face y) ⌝ }
 {
     let stride = cells + 1;
     let first = face * (stride * stride) + y * stride;
-    let mut w = at;
+    let mut to = at;
     let mut x: u32 = 0;
     while x < cells {
-        put_cell((first + x) as u16, stride as u16, w, out);
-        w += 6;
+        put_cell((first + x) as u16, stride as u16, to, out);
+        to += 6;
         x += 1;
     }
-    w
+    to
 }
 
 fn index_face(cells: u32, face: u32, at: usize, out: &mut [u16]) -> usize
     requires { ⌜ (cells ≤ 103) × (face < 6) × (at + length (cubeFace cells face) ≤ length (now out)) ⌝ }
-    ensures { λ r. ⌜ r ≡ at + length (cubeFace cells face) ⌝ }
-    ensures { λ _. ⌜ now (out .exit) ≡ sets (now (out .entry)) at (cubeFace cells face) ⌝ }
+    ensures place { λ r. ⌜ r ≡ at + length (cubeFace cells face) ⌝ }
+    ensures numbers { λ _. ⌜ now (out .exit) ≡ sets (now (out .entry)) at (cubeFace cells face) ⌝ }
 {
-    let mut w = at;
+    let mut to = at;
     let mut y: u32 = 0;
     while y < cells {
-        w = index_row(cells, face, y, w, out);
+        to = index_row(cells, face, y, to, out);
         y += 1;
     }
-    w
+    to
 }
 
 fn index_cube(cells: u32, out: &mut [u16])
     requires { ⌜ (cells ≤ 103) × (length (cubeTriangles cells) ≤ length (now out)) ⌝ }
     ensures { λ _. ⌜ now (out .exit) ≡ sets (now (out .entry)) 0 (cubeTriangles cells) ⌝ }
 {
-    let mut w: usize = 0;
+    let mut to: usize = 0;
     let mut face: u32 = 0;
     while face < 6 {
-        w = index_face(cells, face, w, out);
+        to = index_face(cells, face, to, out);
         face += 1;
     }
 }
@@ -175,17 +175,17 @@ fn between(low: f32, high: f32, s: f32) -> u32
 }
 
 // The point at the shares s and t of a face's width and height.
-fn put_point(radius: f32, face: Face, s: f32, t: f32, w: usize, out: &mut [u32])
-    requires { ⌜ w + 5 ≤ length (now out) ⌝ }
-    ensures { λ _. ⌜ now (out .exit) ≡ sets (now (out .entry)) w (pointOf radius face s t) ⌝ }
+fn put_point(radius: f32, face: Face, s: f32, t: f32, at: usize, out: &mut [u32])
+    requires { ⌜ at + 5 ≤ length (now out) ⌝ }
+    ensures { λ _. ⌜ now (out .exit) ≡ sets (now (out .entry)) at (pointOf radius face s t) ⌝ }
 {
     let a = 2.0 * s - 1.0;
     let b = 2.0 * t - 1.0;
-    out[w] = along(radius, face.x, a, b);
-    out[w + 1] = along(radius, face.y, a, b);
-    out[w + 2] = along(radius, face.z, a, b);
-    out[w + 3] = between(face.u0, face.u1, s);
-    out[w + 4] = between(face.v0, face.v1, t);
+    out[at] = along(radius, face.x, a, b);
+    out[at + 1] = along(radius, face.y, a, b);
+    out[at + 2] = along(radius, face.z, a, b);
+    out[at + 3] = between(face.u0, face.u1, s);
+    out[at + 4] = between(face.v0, face.v1, t);
 }
 
 // As padding_share, of numbers that a cast takes exactly.
@@ -199,45 +199,45 @@ fn small_ratio(x: u32, n: u32) -> f32
 // A row of points, from out[at] on.
 fn point_row(cells: u32, radius: f32, face: Face, y: u32, at: usize, out: &mut [u32]) -> usize
     requires { ⌜ (cells ≤ 103) × (y ≤ cells) × (at + length (rowOf cells radius face y) ≤ length (now out)) ⌝ }
-    ensures { λ r. ⌜ r ≡ at + length (rowOf cells radius face y) ⌝ }
-    ensures { λ _. ⌜ now (out .exit) ≡ sets (now (out .entry)) at (rowOf cells radius face y) ⌝ }
+    ensures place { λ r. ⌜ r ≡ at + length (rowOf cells radius face y) ⌝ }
+    ensures floats { λ _. ⌜ now (out .exit) ≡ sets (now (out .entry)) at (rowOf cells radius face y) ⌝ }
 {
     let n = cells + 1;
     let t = small_ratio(y, cells);
-    let mut w = at;
+    let mut to = at;
     let mut x: u32 = 0;
     while x < n {
-        put_point(radius, face, small_ratio(x, cells), t, w, out);
-        w += 5;
+        put_point(radius, face, small_ratio(x, cells), t, to, out);
+        to += 5;
         x += 1;
     }
-    w
+    to
 }
 
 fn point_face(cells: u32, radius: f32, share: f32, face: u32, at: usize, out: &mut [u32]) -> usize
     requires { ⌜ (cells ≤ 103) × (face < 6) × (at + length (pointFace cells radius share face) ≤ length (now out)) ⌝ }
-    ensures { λ r. ⌜ r ≡ at + length (pointFace cells radius share face) ⌝ }
-    ensures { λ _. ⌜ now (out .exit) ≡ sets (now (out .entry)) at (pointFace cells radius share face) ⌝ }
+    ensures place { λ r. ⌜ r ≡ at + length (pointFace cells radius share face) ⌝ }
+    ensures floats { λ _. ⌜ now (out .exit) ≡ sets (now (out .entry)) at (pointFace cells radius share face) ⌝ }
 {
     let f = face_of(face, share);
     let n = cells + 1;
-    let mut w = at;
+    let mut to = at;
     let mut y: u32 = 0;
     while y < n {
-        w = point_row(cells, radius, f, y, w, out);
+        to = point_row(cells, radius, f, y, to, out);
         y += 1;
     }
-    w
+    to
 }
 
 fn point_cube(cells: u32, radius: f32, share: f32, out: &mut [u32])
     requires { ⌜ (cells ≤ 103) × (length (cubePoints cells radius share) ≤ length (now out)) ⌝ }
     ensures { λ _. ⌜ now (out .exit) ≡ sets (now (out .entry)) 0 (cubePoints cells radius share) ⌝ }
 {
-    let mut w: usize = 0;
+    let mut to: usize = 0;
     let mut face: u32 = 0;
     while face < 6 {
-        w = point_face(cells, radius, share, face, w, out);
+        to = point_face(cells, radius, share, face, to, out);
         face += 1;
     }
 }

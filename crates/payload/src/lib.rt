@@ -39,12 +39,12 @@ pub use equi::parse_equi;
 pub use equi::write_equi;
 pub use mesh::CoordinateNumber;
 pub use mesh::Measured;
-pub use mesh::MeshAnswer;
 pub use mesh::MeshListSize;
 pub use mesh::MeshMeasured;
 pub use mesh::MeshesAnswer;
 pub use mesh::RecordsAnswer;
 pub use mesh::TableLengths;
+pub use mesh::TablesAnswer;
 pub use mesh::VertexNumber;
 pub use mesh::measure_mesh;
 pub use mesh::measure_meshes;
@@ -72,11 +72,11 @@ pub use view::uv_window;
 pub use view::zoom_for_fov;
 
 // The three numbers of a triangle, for the index makers.
-fn put_triangle(out: &mut [u16], w: usize, a: u16, b: u16, c: u16)
-    requires { ⌜ w + 3 ≤ length (now out) ⌝ }
-    ensures { λ _. ⌜ now (out .exit) ≡ sets (now (out .entry)) w (a ∷ b ∷ c ∷ []) ⌝ }
+fn put_triangle(out: &mut [u16], at: usize, a: u16, b: u16, c: u16)
+    requires { ⌜ at + 3 ≤ length (now out) ⌝ }
+    ensures { λ _. ⌜ now (out .exit) ≡ sets (now (out .entry)) at (a ∷ b ∷ c ∷ []) ⌝ }
 {
-    out[w] = a;
-    out[w + 1] = b;
-    out[w + 2] = c;
+    out[at] = a;
+    out[at + 1] = b;
+    out[at + 2] = c;
 }

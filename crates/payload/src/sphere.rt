@@ -32,35 +32,35 @@ fn grid_usable(rings: u32, sectors: u32) -> bool
 fn fill_triangles(a: u16, b: u16, c: u16, n: u16, at: usize, out: &mut [u16]) -> usize
     requires { ⌜ (a + n ≤ 65536) × (b + n ≤ 65536) × (c + n ≤ 65536) ⌝ }
     requires { ⌜ at + length (each (shifted a b c) n) ≤ length (now out) ⌝ }
-    ensures { λ r. ⌜ r ≡ at + length (each (shifted a b c) n) ⌝ }
-    ensures { λ _. ⌜ now (out .exit) ≡ sets (now (out .entry)) at (each (shifted a b c) n) ⌝ }
+    ensures place { λ r. ⌜ r ≡ at + length (each (shifted a b c) n) ⌝ }
+    ensures numbers { λ _. ⌜ now (out .exit) ≡ sets (now (out .entry)) at (each (shifted a b c) n) ⌝ }
 {
-    let mut w = at;
+    let mut to = at;
     let mut i: u16 = 0;
     while i < n {
-        put_triangle(out, w, a + i, b + i, c + i);
-        w += 3;
+        put_triangle(out, to, a + i, b + i, c + i);
+        to += 3;
         i += 1;
     }
-    w
+    to
 }
 
 // The same for n cells of two triangles each, the first with the corners a, b and, on the next ring, c, d.
 fn fill_cells(a: u16, b: u16, c: u16, d: u16, n: u16, at: usize, out: &mut [u16]) -> usize
     requires { ⌜ (a + n ≤ 65536) × (b + n ≤ 65536) × (c + n ≤ 65536) × (d + n ≤ 65536) ⌝ }
     requires { ⌜ at + length (each (cellOn a b c d) n) ≤ length (now out) ⌝ }
-    ensures { λ r. ⌜ r ≡ at + length (each (cellOn a b c d) n) ⌝ }
-    ensures { λ _. ⌜ now (out .exit) ≡ sets (now (out .entry)) at (each (cellOn a b c d) n) ⌝ }
+    ensures place { λ r. ⌜ r ≡ at + length (each (cellOn a b c d) n) ⌝ }
+    ensures numbers { λ _. ⌜ now (out .exit) ≡ sets (now (out .entry)) at (each (cellOn a b c d) n) ⌝ }
 {
-    let mut w = at;
+    let mut to = at;
     let mut i: u16 = 0;
     while i < n {
-        put_triangle(out, w, a + i, d + i, b + i);
-        put_triangle(out, w + 3, a + i, c + i, d + i);
-        w += 6;
+        put_triangle(out, to, a + i, d + i, b + i);
+        put_triangle(out, to + 3, a + i, c + i, d + i);
+        to += 6;
         i += 1;
     }
-    w
+    to
 }
 
 // A row of cells. At a pole two corners of a cell are one point, and the triangle with both is left out.
@@ -75,8 +75,8 @@ fn fill_row(
 ) -> usize
     requires { ⌜ (gridUsable rings sectors ≡ true) × (ring < rings) ⌝ }
     requires { ⌜ at + length (gridRow rings sectors zenith nadir ring) ≤ length (now out) ⌝ }
-    ensures { λ r. ⌜ r ≡ at + length (gridRow rings sectors zenith nadir ring) ⌝ }
-    ensures { λ _. ⌜ now (out .exit) ≡ sets (now (out .entry)) at (gridRow rings sectors zenith nadir ring) ⌝ }
+    ensures place { λ r. ⌜ r ≡ at + length (gridRow rings sectors zenith nadir ring) ⌝ }
+    ensures numbers { λ _. ⌜ now (out .exit) ≡ sets (now (out .entry)) at (gridRow rings sectors zenith nadir ring) ⌝ }
 {
     let n = sectors as u16;
     let a = (ring * (sectors + 1)) as u16;
@@ -97,10 +97,10 @@ fn fill_rows(rings: u32, sectors: u32, zenith: bool, nadir: bool, out: &mut [u16
     requires { ⌜ length (gridTriangles rings sectors zenith nadir) ≤ length (now out) ⌝ }
     ensures { λ _. ⌜ now (out .exit) ≡ sets (now (out .entry)) 0 (gridTriangles rings sectors zenith nadir) ⌝ }
 {
-    let mut w: usize = 0;
+    let mut to: usize = 0;
     let mut ring: u32 = 0;
     while ring < rings {
-        w = fill_row(rings, sectors, zenith, nadir, ring, w, out);
+        to = fill_row(rings, sectors, zenith, nadir, ring, to, out);
         ring += 1;
     }
 }
@@ -168,19 +168,19 @@ fn v_bits(ring: u32, rings: u32) -> u32
 fn fill_uv_row(rings: u32, sectors: u32, ring: u32, at: usize, out: &mut [u32]) -> usize
     requires { ⌜ sectors < 65536 ⌝ }
     requires { ⌜ at + length (uvRow rings sectors ring) ≤ length (now out) ⌝ }
-    ensures { λ r. ⌜ r ≡ at + length (uvRow rings sectors ring) ⌝ }
-    ensures { λ _. ⌜ now (out .exit) ≡ sets (now (out .entry)) at (uvRow rings sectors ring) ⌝ }
+    ensures place { λ r. ⌜ r ≡ at + length (uvRow rings sectors ring) ⌝ }
+    ensures floats { λ _. ⌜ now (out .exit) ≡ sets (now (out .entry)) at (uvRow rings sectors ring) ⌝ }
 {
     let v = v_bits(ring, rings);
-    let mut w = at;
+    let mut to = at;
     let mut sector: u32 = 0;
     while sector <= sectors {
-        out[w] = u_bits(sector, sectors);
-        out[w + 1] = v;
-        w += 2;
+        out[to] = u_bits(sector, sectors);
+        out[to + 1] = v;
+        to += 2;
         sector += 1;
     }
-    w
+    to
 }
 
 fn fill_uv_rows(rings: u32, sectors: u32, out: &mut [u32])
@@ -188,10 +188,10 @@ fn fill_uv_rows(rings: u32, sectors: u32, out: &mut [u32])
     requires { ⌜ length (gridUvs rings sectors) ≤ length (now out) ⌝ }
     ensures { λ _. ⌜ now (out .exit) ≡ sets (now (out .entry)) 0 (gridUvs rings sectors) ⌝ }
 {
-    let mut w: usize = 0;
+    let mut to: usize = 0;
     let mut ring: u32 = 0;
     while ring <= rings {
-        w = fill_uv_row(rings, sectors, ring, w, out);
+        to = fill_uv_row(rings, sectors, ring, to, out);
         ring += 1;
     }
 }

@@ -34,7 +34,7 @@ same-length : tie.Need-same-length
 same-length c = search needs
 
 returns : tie.Need-returns
-returns c = rw (add-one (c .args .w), add-two (c .args .w))
+returns c = rw (add-one (c .args .at), add-two (c .args .at))
 
 pub put-triangle-spec : {M : Type 1} → statement M
 put-triangle-spec =

@@ -1,8 +1,8 @@
 // The validating pass over a mesh list: it answers every refusal but 12, and how long the drawing is, and touches
 // nothing.
 use super::MESH;
-use super::one_field;
-use super::word;
+use super::fields::one_field;
+use super::fields::word;
 use bits::BoxHeader;
 use bits::ByteCursor;
 use bits::Run;

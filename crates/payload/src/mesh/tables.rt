@@ -1,29 +1,28 @@
 // A mesh body as four tables: pool words, coordinate numbers, three words for each submesh, and the vertex numbers of
-// the points.
-// A body is measured first. What fills the tables goes over a body that is known to be read whole, and tests nothing
-// again.
-use super::fill_vertices;
+// the points. A body is measured first. What fills the tables goes over a body that is known to be read whole, and
+// tests nothing again.
+use super::fields::word;
+use super::head::mesh_head;
 use super::measure::MeshMeasured;
 use super::measure::TableLengths;
 use super::measure::measure_mesh;
-use super::mesh_head;
-use super::one_field;
-use super::word;
+use super::submeshes::Submeshes;
+use super::submeshes::next_submesh;
+use super::vertices::fill_vertices;
 use bits::Run;
 ghost use mathlib.Core.Path.{_≡_};
 ghost use mathlib.Core.List.{[], _∷_};
 ghost use Prim.Native.Nat.{_+_, _*_, _≤_};
 ghost use lib.ListN.{length};
 ghost use lib.Seq.{sets};
-ghost use Rattle.bits.specs.Number.{widthOf};
-ghost use Rattle.payload.specs.MeshRead.{many, readSubmesh, readWords, readMesh};
-ghost use Rattle.payload.specs.Internal.{WasRead, RunPlace, pointsOf, submeshesRead, meshRead};
+ghost use Rattle.payload.specs.MeshRead.{readWords, readMesh};
+ghost use Rattle.payload.specs.Internal.{WasRead, PointsThere, pointsOf, SubmeshesThere, submeshesOf, meshRead};
 ghost use Rattle.payload.specs.Tables.{submeshRows, allPoints, poolTable, coordinateTable, submeshTable};
 ghost use Rattle.payload.specs.Tables.{pointTable, tablesPlan, tablesSays};
 ghost use Rattle.payload.specs.Lent.{answerFor, buffersAfter, atEntry};
 
 // Stores the n pool words.
-fn fill_pool(s: &[u8], n: u32, out: &mut [u32])
+fn fill_pool(s: &[u8], n: u16, out: &mut [u32])
     requires { ⌜ (length (now s) ≤ 67108864) × (32 * n + 32 ≤ 8 * length (now s)) × (n ≤ length (now out)) ⌝ }
     ensures { λ _. ⌜ now (out .exit) ≡ sets (now (out .entry)) 0 (readWords (now (s .entry)) 32 n) ⌝ }
 {
@@ -45,31 +44,26 @@ fn put_row(out: &mut [u32], at: usize, texture: u32, mode: u32, points: u32)
     out[at + 2] = points;
 }
 
-// Stores the words of count submeshes from bit p on, over m vertices.
-fn fill_rows(s: &[u8], p: usize, m: u32, count: u32, out: &mut [u32])
-    requires { ⌜ (length (now s) ≤ 67108864) × (m ≤ 65536) × (64 ≤ p) × (3 * count ≤ length (now out)) ⌝ }
-    requires { ⌜ WasRead (many (readSubmesh (now s) (widthOf m) m) count p) ⌝ }
-    ensures { λ _. ⌜ now (out .exit) ≡ sets (now (out .entry)) 0 (submeshRows (submeshesRead (many (readSubmesh (now
-        (s .entry)) (widthOf m) m) count p))) ⌝ }
+// Stores the rows of some submeshes.
+fn fill_rows(s: &[u8], all: Submeshes, out: &mut [u32])
+    requires { ⌜ SubmeshesThere (now s) all ⌝ }
+    requires { ⌜ 3 * all .left ≤ length (now out) ⌝ }
+    ensures rows { λ _. ⌜ now (out .exit)
+        ≡ sets (now (out .entry)) 0 (submeshRows (submeshesOf (now (s .entry)) all)) ⌝ }
 {
-    let w = bits::bit_width(m) as usize;
-    let mut bit = p;
-    let mut left = count;
-    let mut o: usize = 0;
-    while 0 < left {
-        let texture = one_field(s, bit, 8);
-        let mode = one_field(s, bit + 8, 8);
-        let points = one_field(s, bit + 16, 32);
-        put_row(out, o, texture, mode, points);
-        o += 3;
-        bit += 48 + (points as usize) * w;
-        left -= 1;
+    let mut left = all;
+    let mut at: usize = 0;
+    while 0 < left.left {
+        let next = next_submesh(s, left);
+        put_row(out, at, next.texture, next.mode, next.run.count);
+        at += 3;
+        left = next.rest;
     }
 }
 
 // Stores the vertex numbers of a run that is known to be read whole, from place at on.
 fn fill_run(s: &[u8], run: Run, out: &mut [u16], at: usize)
-    requires { ⌜ RunPlace (now s) run ⌝ }
+    requires { ⌜ PointsThere (now s) run ⌝ }
     requires { ⌜ at + run .count ≤ length (now out) ⌝ }
     ensures points { λ _. ⌜ now (out .exit) ≡ sets (now (out .entry)) at (pointsOf (now (s .entry)) run) ⌝ }
 {
@@ -78,30 +72,20 @@ fn fill_run(s: &[u8], run: Run, out: &mut [u16], at: usize)
     bits::fill_run(s, run.bit, width, 0, &mut out[at..end]);
 }
 
-// Stores the vertex numbers of the points of count submeshes from bit p on, over m vertices.
-fn fill_points(s: &[u8], p: usize, m: u32, count: u32, out: &mut [u16])
-    requires { ⌜ (length (now s) ≤ 67108864) × (m ≤ 32000) × (64 ≤ p)
-        × (length (allPoints (submeshesRead (many (readSubmesh (now s) (widthOf m) m) count p))) ≤ length (now out))
-        × (1 ≤ m) ⌝ }
-    requires { ⌜ WasRead (many (readSubmesh (now s) (widthOf m) m) count p) ⌝ }
-    ensures { λ _. ⌜ now (out .exit) ≡ sets (now (out .entry)) 0 (allPoints (submeshesRead (many (readSubmesh (now
-        (s .entry)) (widthOf m) m) count p))) ⌝ }
+// Stores the vertex numbers of the points of some submeshes.
+fn fill_points(s: &[u8], all: Submeshes, out: &mut [u16])
+    requires { ⌜ SubmeshesThere (now s) all ⌝ }
+    requires { ⌜ length (allPoints (submeshesOf (now s) all)) ≤ length (now out) ⌝ }
+    ensures points { λ _. ⌜ now (out .exit)
+        ≡ sets (now (out .entry)) 0 (allPoints (submeshesOf (now (s .entry)) all)) ⌝ }
 {
-    let w = bits::bit_width(m) as usize;
-    let mut bit = p;
-    let mut left = count;
-    let mut o: usize = 0;
-    while 0 < left {
-        let n = one_field(s, bit + 16, 32);
-        let run = Run {
-            bit: bit + 48,
-            limit: m as u16,
-            count: n,
-        };
-        fill_run(s, run, out, o);
-        o += n as usize;
-        bit += 48 + (n as usize) * w;
-        left -= 1;
+    let mut left = all;
+    let mut at: usize = 0;
+    while 0 < left.left {
+        let next = next_submesh(s, left);
+        fill_run(s, next.run, out, at);
+        at += next.run.count as usize;
+        left = next.rest;
     }
 }
 
@@ -118,31 +102,24 @@ fn fill_tables(
         × (length (coordinateTable (meshRead (now s))) ≤ length (now coordinates))
         × (length (submeshTable (meshRead (now s))) ≤ length (now submeshes))
         × (length (pointTable (meshRead (now s))) ≤ length (now points)) ⌝ }
-    ensures { λ _. ⌜ now (pool .exit) ≡ sets (now (pool .entry)) 0 (poolTable (meshRead (now (s .entry)))) ⌝ }
-    ensures { λ _. ⌜ now (coordinates .exit) ≡ sets (now (coordinates .entry)) 0 (coordinateTable (meshRead (now
-        (s .entry)))) ⌝ }
-    ensures { λ _. ⌜ now (submeshes .exit)
+    ensures pool { λ _. ⌜ now (pool .exit) ≡ sets (now (pool .entry)) 0 (poolTable (meshRead (now (s .entry)))) ⌝ }
+    ensures coordinates { λ _. ⌜ now (coordinates .exit)
+        ≡ sets (now (coordinates .entry)) 0 (coordinateTable (meshRead (now (s .entry)))) ⌝ }
+    ensures submeshes { λ _. ⌜ now (submeshes .exit)
         ≡ sets (now (submeshes .entry)) 0 (submeshTable (meshRead (now (s .entry)))) ⌝ }
-    ensures { λ _. ⌜ now (points .exit) ≡ sets (now (points .entry)) 0 (pointTable (meshRead (now (s .entry)))) ⌝ }
+    ensures points { λ _. ⌜ now (points .exit)
+        ≡ sets (now (points .entry)) 0 (pointTable (meshRead (now (s .entry)))) ⌝ }
 {
     let h = mesh_head(s);
-    fill_pool(s, h.coordinates, pool);
-    fill_vertices(
-        s,
-        32 * (h.coordinates as usize) + 64,
-        h.width,
-        h.coordinates,
-        h.vertices,
-        coordinates,
-        0,
-    );
-    fill_rows(s, h.first, h.vertices, h.submeshes, submeshes);
-    fill_points(s, h.first, h.vertices, h.submeshes, points);
+    fill_pool(s, h.vertices.limit, pool);
+    fill_vertices(s, h.vertices, coordinates, 0);
+    fill_rows(s, h.submeshes, submeshes);
+    fill_points(s, h.submeshes, points);
 }
 
 // What reading a mesh body answers: the used lengths of the four tables, or the lengths that they need, or the number
 // of a refusal.
-pub enum MeshAnswer {
+pub enum TablesAnswer {
     Tables(TableLengths),
     Needs(TableLengths),
     Declined(u8),
@@ -156,7 +133,7 @@ pub fn parse_mesh(
     coordinates: &mut [u16],
     submeshes: &mut [u32],
     points: &mut [u16],
-) -> MeshAnswer
+) -> TablesAnswer
     ensures answer { λ r. ⌜ tablesSays r
         ≡ answerFor (tablesPlan (now (body .entry))) (atEntry (pool ∷ coordinates ∷ submeshes ∷ points ∷ [])) ⌝ }
     ensures buffers { λ _. ⌜ now (pool .exit) ∷ now (coordinates .exit) ∷ now (submeshes .exit) ∷ now (points .exit)
@@ -164,7 +141,7 @@ pub fn parse_mesh(
         ≡ buffersAfter (tablesPlan (now (body .entry))) (atEntry (pool ∷ coordinates ∷ submeshes ∷ points ∷ [])) ⌝ }
 {
     match measure_mesh(body) {
-        MeshMeasured::Declined(k) => MeshAnswer::Declined(k),
+        MeshMeasured::Declined(k) => TablesAnswer::Declined(k),
         MeshMeasured::Lengths(n) => {
             if (n.pool <= pool.len())
                 & (n.coordinates <= coordinates.len())
@@ -172,9 +149,9 @@ pub fn parse_mesh(
                 & (n.points <= points.len())
             {
                 fill_tables(body, pool, coordinates, submeshes, points);
-                return MeshAnswer::Tables(n);
+                return TablesAnswer::Tables(n);
             }
-            MeshAnswer::Needs(n)
+            TablesAnswer::Needs(n)
         }
     }
 }

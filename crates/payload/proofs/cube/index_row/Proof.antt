@@ -51,9 +51,9 @@ unfolding cubeRow
 put-cell-requires c κs =
     (omega (arith, small (c .before .before .before .before)), filling-room (c .before .before .loop .inv) (omega arith) (c .before .before .before .before .pre .3))
 
-add-w : tie.Need-add-w Inv-loop μ-loop
+add-to : tie.Need-add-to Inv-loop μ-loop
 unfolding cubeRow
-add-w c = omega (arith, filling-room (c .before .before .before .before .before .loop .inv) (omega arith) (c .before .before .before .before .before .before .before .pre .3), filling-length (c .before .before .before .before .before .loop .inv))
+add-to c = omega (arith, filling-room (c .before .before .before .before .before .loop .inv) (omega arith) (c .before .before .before .before .before .before .before .pre .3), filling-length (c .before .before .before .before .before .loop .inv))
 
 add-x : tie.Need-add-x Inv-loop μ-loop
 add-x c = search needs
@@ -65,7 +65,7 @@ loop-again : tie.Need-loop-again Inv-loop μ-loop
 loop-again c =
     let z = c .before .before .before .before .before in
     let a = z .before .before .args in
-    filling-more (z .loop .inv) _ _ (omega arith) refl (c .before .before .put-cell .ensures ∙ ap (sets (z .loop .out) (z .loop .w)) (cell-of (a .cells) (a .face) (a .y) (z .loop .x)))
+    filling-more (z .loop .inv) _ _ (omega arith) refl (c .before .before .put-cell .ensures ∙ ap (sets (z .loop .out) (z .loop .to)) (cell-of (a .cells) (a .face) (a .y) (z .loop .x)))
 
 same-length : tie.Need-same-length Inv-loop μ-loop
 same-length c = filling-length (c .before .loop .inv)
@@ -90,7 +90,7 @@ index-row-spec =
     cast-put-cell
     cast-put-cell-2
     put-cell-requires
-    add-w
+    add-to
     add-x
     loop-less
     loop-again

@@ -47,7 +47,7 @@ loop-again c =
     let a = z .before .before .before .args in
     let e = row-of _ (a .cells) (a .radius) (a .share) (a .face) (z .loop .y) (z .before .face-of .ensures) in
     let p = c .before .before .point-row .ensures in
-    filling-more (z .loop .inv) _ _ (omega arith) (p .0 ∙ ap (λ (l : List ℕ). z .loop .w + length l) e) (p .1 ∙ ap (sets (z .loop .out) (z .loop .w)) e)
+    filling-more (z .loop .inv) _ _ (omega arith) (p .0 ∙ ap (λ (l : List ℕ). z .loop .to + length l) e) (p .1 ∙ ap (sets (z .loop .out) (z .loop .to)) e)
 
 same-length : tie.Need-same-length Inv-loop μ-loop
 same-length c = filling-length (c .before .loop .inv)

@@ -37,9 +37,9 @@ put-point-requires : tie.Need-put-point-requires Inv-loop μ-loop
 unfolding rowOf pointOf
 put-point-requires c κs = filling-room (c .before .before .before .loop .inv) (omega arith) (c .before .before .before .before .before .before .pre .2)
 
-add-w : tie.Need-add-w Inv-loop μ-loop
+add-to : tie.Need-add-to Inv-loop μ-loop
 unfolding rowOf pointOf
-add-w c = omega (arith, filling-room (c .before .before .before .before .before .before .loop .inv) (omega arith) (c .before .before .before .before .before .before .before .before .before .pre .2), filling-length (c .before .before .before .before .before .before .loop .inv))
+add-to c = omega (arith, filling-room (c .before .before .before .before .before .before .loop .inv) (omega arith) (c .before .before .before .before .before .before .before .before .before .pre .2), filling-length (c .before .before .before .before .before .before .loop .inv))
 
 add-x : tie.Need-add-x Inv-loop μ-loop
 add-x c = search needs
@@ -52,7 +52,7 @@ loop-again c =
     let z = c .before .before .before .before .before .before in
     let a = z .before .before .before .args in
     filling-more (z .loop .inv) _ _ (omega arith) (unfold pointOf in refl)
-    (c .before .before .put-point .ensures ∙ same (z .loop .out) (z .loop .w) (a .radius) (a .face) (c .before .before .before .before .small-ratio2 .ensures) (z .before .small-ratio .ensures))
+    (c .before .before .put-point .ensures ∙ same (z .loop .out) (z .loop .to) (a .radius) (a .face) (c .before .before .before .before .small-ratio2 .ensures) (z .before .small-ratio .ensures))
 
 same-length : tie.Need-same-length Inv-loop μ-loop
 same-length c = filling-length (c .before .loop .inv)
@@ -72,7 +72,7 @@ point-row-spec =
     loop-holds
     small-ratio-requires-2
     put-point-requires
-    add-w
+    add-to
     add-x
     loop-less
     loop-again

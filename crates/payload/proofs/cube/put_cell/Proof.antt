@@ -30,7 +30,7 @@ same-length c = search needs
 returns : tie.Need-returns
 returns c =
     let a = c .before .before .before .before .before .before .before .before .before .args in
-    sets-then (a .a ∷ (a .a + a .stride + 1) ∷ (a .a + a .stride) ∷ []) (a .a ∷ (a .a + 1) ∷ (a .a + a .stride + 1) ∷ []) (a .out .now) _ _ (a .w) (c .before .before .before .before .before .before .put-triangle .ensures) (c .before .before .put-triangle2 .ensures)
+    sets-then (a .a ∷ (a .a + a .stride + 1) ∷ (a .a + a .stride) ∷ []) (a .a ∷ (a .a + 1) ∷ (a .a + a .stride + 1) ∷ []) (a .out .now) _ _ (a .at) (c .before .before .before .before .before .before .put-triangle .ensures) (c .before .before .put-triangle2 .ensures)
 
 pub put-cell-spec : {M : Type 1} → statement M
 put-cell-spec =

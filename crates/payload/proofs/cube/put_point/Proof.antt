@@ -80,7 +80,7 @@ returns c =
     let z = c .before .before .before in
     let a = z .before .before .before .args in
     simp towards-suc
-    (ap (sets (a .out .now) (a .w)) (five (z .before .along .ensures) (z .along2 .ensures) (c .before .before .along3 .ensures) (c .before .between .ensures) (c .between2 .ensures)))
+    (ap (sets (a .out .now) (a .at)) (five (z .before .along .ensures) (z .along2 .ensures) (c .before .before .along3 .ensures) (c .before .between .ensures) (c .between2 .ensures)))
 
 pub put-point-spec : {M : Type 1} → statement M
 put-point-spec =

@@ -16,11 +16,11 @@ abbrev μ-loop : tie.MeasureT-loop
 μ-loop a b c d n at out₀ w₀ i₀ out w i = n - i
 
 -- in a turn, a cell has room
-room : (c : tie.In-loop Inv-loop μ-loop) → (c .before .loop .w + 6 ≤ length (c .before .before .before .args .out .now)) × (length (c .before .loop .out) ≡ length (c .before .before .before .args .out .now))
+room : (c : tie.In-loop Inv-loop μ-loop) → (c .before .loop .to + 6 ≤ length (c .before .before .before .args .out .now)) × (length (c .before .loop .out) ≡ length (c .before .before .before .args .out .now))
 room c =
     let l = c .before .loop in
     let a = c .before .before .before .args in
-    holds-room (cellOn (a .a) (a .b) (a .c) (a .d)) (l .i) (a .out .now) (l .out) (a .at) (l .w) (l .inv .1) (a .n) (omega arith) (omega arith)
+    holds-room (cellOn (a .a) (a .b) (a .c) (a .d)) (l .i) (a .out .now) (l .out) (a .at) (l .to) (l .inv .1) (a .n) (omega arith) (omega arith)
 
 loop-holds : tie.Need-loop-holds Inv-loop μ-loop
 loop-holds c = let a = c .before .args in (omega arith, holds-none (cellOn (a .a) (a .b) (a .c) (a .d)) (a .out .now) (a .at))
@@ -52,8 +52,8 @@ add-put-triangle-7 c = omega arith
 put-triangle-requires-2 : tie.Need-put-triangle-requires-2 Inv-loop μ-loop
 put-triangle-requires-2 c κs = omega (arith, room (c .before .before .before .before .before), c .before .before .before .put-triangle .kept .0)
 
-add-w : tie.Need-add-w Inv-loop μ-loop
-add-w c = omega (arith, room (c .before .before .before .before .before .before .before .before))
+add-to : tie.Need-add-to Inv-loop μ-loop
+add-to c = omega (arith, room (c .before .before .before .before .before .before .before .before))
 
 add-i : tie.Need-add-i Inv-loop μ-loop
 add-i c = omega arith
@@ -66,13 +66,13 @@ loop-again c =
     let k = c .before .before .before .before .before .before .before .before in
     let l = k .before .loop in
     let a = k .before .before .before .args in
-    (omega arith, holds-next (cellOn (a .a) (a .b) (a .c) (a .d)) (l .i) (a .out .now) (l .out) (a .at) (l .w) (l .inv .1) _ _ (refl, sets-then (shifted (a .a) (a .d) (a .b) (l .i)) (shifted (a .a) (a .c) (a .d) (l .i)) (l .out) _ _ (l .w) (c .before .before .before .before .before .before .put-triangle .ensures) (c .before .before .put-triangle2 .ensures)))
+    (omega arith, holds-next (cellOn (a .a) (a .b) (a .c) (a .d)) (l .i) (a .out .now) (l .out) (a .at) (l .to) (l .inv .1) _ _ (refl, sets-then (shifted (a .a) (a .d) (a .b) (l .i)) (shifted (a .a) (a .c) (a .d) (l .i)) (l .out) _ _ (l .to) (c .before .before .before .before .before .before .put-triangle .ensures) (c .before .before .put-triangle2 .ensures)))
 
 same-length : tie.Need-same-length Inv-loop μ-loop
 same-length c =
     let l = c .before .loop in
     let a = c .before .before .before .args in
-    holds-length (a .out .now) (a .at) (each (cellOn (a .a) (a .b) (a .c) (a .d)) (l .i)) (l .out) (l .w) (l .inv .1)
+    holds-length (a .out .now) (a .at) (each (cellOn (a .a) (a .b) (a .c) (a .d)) (l .i)) (l .out) (l .to) (l .inv .1)
 
 returns : tie.Need-returns Inv-loop μ-loop
 returns c =
@@ -96,7 +96,7 @@ fill-cells-spec =
     add-put-triangle-6
     add-put-triangle-7
     put-triangle-requires-2
-    add-w
+    add-to
     add-i
     loop-less
     loop-again

@@ -23,7 +23,7 @@ fill-row-requires c κs =
     let l = c .before .before .loop in
     let s = c .before .before .before .before in
     let a = s .args in
-    let r = holds-room (gridRow (a .rings) (a .sectors) (a .zenith) (a .nadir)) (l .ring) (a .out .now) (l .out) 0 (l .w) (l .inv .1) (a .rings) (omega arith) (omega arith) in
+    let r = holds-room (gridRow (a .rings) (a .sectors) (a .zenith) (a .nadir)) (l .ring) (a .out .now) (l .out) 0 (l .to) (l .inv .1) (a .rings) (omega arith) (omega arith) in
     ((s .pre .0, omega arith), omega arith)
 
 add-ring : tie.Need-add-ring Inv-loop μ-loop
@@ -36,13 +36,13 @@ loop-again : tie.Need-loop-again Inv-loop μ-loop
 loop-again c =
     let l = c .before .before .before .before .before .loop in
     let a = c .before .before .before .before .before .before .before .args in
-    (omega arith, holds-next (gridRow (a .rings) (a .sectors) (a .zenith) (a .nadir)) (l .ring) (a .out .now) (l .out) 0 (l .w) (l .inv .1) _ _ (c .before .before .fill-row .ensures))
+    (omega arith, holds-next (gridRow (a .rings) (a .sectors) (a .zenith) (a .nadir)) (l .ring) (a .out .now) (l .out) 0 (l .to) (l .inv .1) _ _ (c .before .before .fill-row .ensures))
 
 same-length : tie.Need-same-length Inv-loop μ-loop
 same-length c =
     let l = c .before .loop in
     let a = c .before .before .before .args in
-    holds-length (a .out .now) 0 (each (gridRow (a .rings) (a .sectors) (a .zenith) (a .nadir)) (l .ring)) (l .out) (l .w) (l .inv .1)
+    holds-length (a .out .now) 0 (each (gridRow (a .rings) (a .sectors) (a .zenith) (a .nadir)) (l .ring)) (l .out) (l .to) (l .inv .1)
 
 returns : tie.Need-returns Inv-loop μ-loop
 unfolding gridTriangles

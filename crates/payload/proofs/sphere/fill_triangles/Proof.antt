@@ -16,11 +16,11 @@ abbrev μ-loop : tie.MeasureT-loop
 μ-loop a b c n at out₀ w₀ i₀ out w i = n - i
 
 -- in a turn, a triangle has room
-room : (c : tie.In-loop Inv-loop μ-loop) → (c .before .loop .w + 3 ≤ length (c .before .before .before .args .out .now)) × (length (c .before .loop .out) ≡ length (c .before .before .before .args .out .now))
+room : (c : tie.In-loop Inv-loop μ-loop) → (c .before .loop .to + 3 ≤ length (c .before .before .before .args .out .now)) × (length (c .before .loop .out) ≡ length (c .before .before .before .args .out .now))
 room c =
     let l = c .before .loop in
     let a = c .before .before .before .args in
-    holds-room (shifted (a .a) (a .b) (a .c)) (l .i) (a .out .now) (l .out) (a .at) (l .w) (l .inv .1) (a .n) (omega arith) (omega arith)
+    holds-room (shifted (a .a) (a .b) (a .c)) (l .i) (a .out .now) (l .out) (a .at) (l .to) (l .inv .1) (a .n) (omega arith) (omega arith)
 
 loop-holds : tie.Need-loop-holds Inv-loop μ-loop
 loop-holds c = let a = c .before .args in (omega arith, holds-none (shifted (a .a) (a .b) (a .c)) (a .out .now) (a .at))
@@ -37,8 +37,8 @@ add-put-triangle-3 c = omega arith
 put-triangle-requires : tie.Need-put-triangle-requires Inv-loop μ-loop
 put-triangle-requires c κs = omega (arith, room (c .before))
 
-add-w : tie.Need-add-w Inv-loop μ-loop
-add-w c = omega (arith, room (c .before .before .before .before))
+add-to : tie.Need-add-to Inv-loop μ-loop
+add-to c = omega (arith, room (c .before .before .before .before))
 
 add-i : tie.Need-add-i Inv-loop μ-loop
 add-i c = omega arith
@@ -51,13 +51,13 @@ loop-again c =
     let k = c .before .before .before .before in
     let l = k .before .loop in
     let a = k .before .before .before .args in
-    (omega arith, holds-next (shifted (a .a) (a .b) (a .c)) (l .i) (a .out .now) (l .out) (a .at) (l .w) (l .inv .1) _ _ (refl, c .before .before .put-triangle .ensures))
+    (omega arith, holds-next (shifted (a .a) (a .b) (a .c)) (l .i) (a .out .now) (l .out) (a .at) (l .to) (l .inv .1) _ _ (refl, c .before .before .put-triangle .ensures))
 
 same-length : tie.Need-same-length Inv-loop μ-loop
 same-length c =
     let l = c .before .loop in
     let a = c .before .before .before .args in
-    holds-length (a .out .now) (a .at) (each (shifted (a .a) (a .b) (a .c)) (l .i)) (l .out) (l .w) (l .inv .1)
+    holds-length (a .out .now) (a .at) (each (shifted (a .a) (a .b) (a .c)) (l .i)) (l .out) (l .to) (l .inv .1)
 
 returns : tie.Need-returns Inv-loop μ-loop
 returns c =
@@ -76,7 +76,7 @@ fill-triangles-spec =
     add-put-triangle-2
     add-put-triangle-3
     put-triangle-requires
-    add-w
+    add-to
     add-i
     loop-less
     loop-again

@@ -23,13 +23,13 @@ abbrev μ-loop : tie.MeasureT-loop
 μ-loop rings sectors ring at out₀ v w₀ sector₀ out w sector = sectors + 1 - sector
 
 -- in a turn, a vertex has room
-room : (c : tie.In-loop Inv-loop μ-loop) → (c .before .loop .w + 2 ≤ length (c .before .before .before .before .args .out .now)) × (length (c .before .loop .out) ≡ length (c .before .before .before .before .args .out .now))
+room : (c : tie.In-loop Inv-loop μ-loop) → (c .before .loop .to + 2 ≤ length (c .before .before .before .before .args .out .now)) × (length (c .before .loop .out) ≡ length (c .before .before .before .before .args .out .now))
 unfolding uvRow
 room c =
     let l = c .before .loop in
     let s = c .before .before .before .before in
     let a = s .args in
-    holds-room (gridUv (a .rings) (a .sectors) (a .ring)) (l .sector) (a .out .now) (l .out) (a .at) (l .w) (l .inv .1) (a .sectors + 1) (omega arith) (s .pre .1)
+    holds-room (gridUv (a .rings) (a .sectors) (a .ring)) (l .sector) (a .out .now) (l .out) (a .at) (l .to) (l .inv .1) (a .sectors + 1) (omega arith) (s .pre .1)
 
 v-bits-requires : tie.Need-v-bits-requires Inv-loop μ-loop
 v-bits-requires c κs = search needs
@@ -55,8 +55,8 @@ mul-out-2 c = omega (arith, room (c .before))
 slice-write-out-2 : tie.Need-slice-write-out-2 Inv-loop μ-loop
 slice-write-out-2 c = simp length-set (omega (arith, room (c .before)))
 
-add-w : tie.Need-add-w Inv-loop μ-loop
-add-w c = omega (arith, room (c .before))
+add-to : tie.Need-add-to Inv-loop μ-loop
+add-to c = omega (arith, room (c .before))
 
 add-sector : tie.Need-add-sector Inv-loop μ-loop
 add-sector c = omega arith
@@ -68,13 +68,13 @@ loop-again : tie.Need-loop-again Inv-loop μ-loop
 loop-again c =
     let l = c .before .before .loop in
     let a = c .before .before .before .before .before .args in
-    (omega arith, holds-next (gridUv (a .rings) (a .sectors) (a .ring)) (l .sector) (a .out .now) (l .out) (a .at) (l .w) (l .inv .1) _ _ (refl, two (l .out) (l .w) (c .u-bits .ensures) (c .before .before .before .v-bits .ensures)))
+    (omega arith, holds-next (gridUv (a .rings) (a .sectors) (a .ring)) (l .sector) (a .out .now) (l .out) (a .at) (l .to) (l .inv .1) _ _ (refl, two (l .out) (l .to) (c .u-bits .ensures) (c .before .before .before .v-bits .ensures)))
 
 same-length : tie.Need-same-length Inv-loop μ-loop
 same-length c =
     let l = c .before .loop in
     let a = c .before .before .before .before .args in
-    holds-length (a .out .now) (a .at) (each (gridUv (a .rings) (a .sectors) (a .ring)) (l .sector)) (l .out) (l .w) (l .inv .1)
+    holds-length (a .out .now) (a .at) (each (gridUv (a .rings) (a .sectors) (a .ring)) (l .sector)) (l .out) (l .to) (l .inv .1)
 
 returns : tie.Need-returns Inv-loop μ-loop
 unfolding uvRow
@@ -97,7 +97,7 @@ fill-uv-row-spec =
     add-out
     mul-out-2
     slice-write-out-2
-    add-w
+    add-to
     add-sector
     loop-less
     loop-again

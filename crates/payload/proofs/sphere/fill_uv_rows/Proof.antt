@@ -24,7 +24,7 @@ fill-uv-row-requires c κs =
     let l = c .before .before .loop in
     let s = c .before .before .before .before in
     let a = s .args in
-    let r = holds-room (uvRow (a .rings) (a .sectors)) (l .ring) (a .out .now) (l .out) 0 (l .w) (l .inv .1) (a .rings + 1) (omega arith) (omega arith) in
+    let r = holds-room (uvRow (a .rings) (a .sectors)) (l .ring) (a .out .now) (l .out) 0 (l .to) (l .inv .1) (a .rings + 1) (omega arith) (omega arith) in
     (sides-fit (a .rings) (a .sectors) (s .pre .0) .1, omega arith)
 
 add-ring : tie.Need-add-ring Inv-loop μ-loop
@@ -37,13 +37,13 @@ loop-again : tie.Need-loop-again Inv-loop μ-loop
 loop-again c =
     let l = c .before .before .before .before .before .loop in
     let a = c .before .before .before .before .before .before .before .args in
-    (omega arith, holds-next (uvRow (a .rings) (a .sectors)) (l .ring) (a .out .now) (l .out) 0 (l .w) (l .inv .1) _ _ (c .before .before .fill-uv-row .ensures))
+    (omega arith, holds-next (uvRow (a .rings) (a .sectors)) (l .ring) (a .out .now) (l .out) 0 (l .to) (l .inv .1) _ _ (c .before .before .fill-uv-row .ensures))
 
 same-length : tie.Need-same-length Inv-loop μ-loop
 same-length c =
     let l = c .before .loop in
     let a = c .before .before .before .args in
-    holds-length (a .out .now) 0 (each (uvRow (a .rings) (a .sectors)) (l .ring)) (l .out) (l .w) (l .inv .1)
+    holds-length (a .out .now) 0 (each (uvRow (a .rings) (a .sectors)) (l .ring)) (l .out) (l .to) (l .inv .1)
 
 returns : tie.Need-returns Inv-loop μ-loop
 unfolding gridUvs

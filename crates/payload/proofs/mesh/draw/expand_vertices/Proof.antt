@@ -43,8 +43,8 @@ slice-write-words c = omega arith
 add-k : tie.Need-add-k Inv-loop μ-loop
 add-k c = omega arith
 
-add-o : tie.Need-add-o Inv-loop μ-loop
-add-o c = omega arith
+add-to : tie.Need-add-to Inv-loop μ-loop
+add-to c = omega arith
 
 sub-left : tie.Need-sub-left Inv-loop μ-loop
 sub-left c = omega arith
@@ -58,7 +58,7 @@ loop-again c =
     let l = c .before .before .loop in
     let f = wordAt (now (a .s)) (now (a .numbers)) in
     record {
-      same = l .inv .same ∙ words-first f (l .words) (l .k) (l .left) (l .o) (omega arith) ∙ ap (λ (v : ℕ). sets (set (l .words) (l .o) v) (l .o + 1) (wordsFrom f (l .k + 1) (l .left - 1))) (sym (c .word-at .ensures));
+      same = l .inv .same ∙ words-first f (l .words) (l .k) (l .left) (l .to) (omega arith) ∙ ap (λ (v : ℕ). sets (set (l .words) (l .to) v) (l .to + 1) (wordsFrom f (l .k + 1) (l .left - 1))) (sym (c .word-at .ensures));
       from = omega arith;
       place = omega arith;
       room = simp length-set (omega arith);
@@ -72,7 +72,7 @@ returns : tie.Need-returns Inv-loop μ-loop
 returns c =
     let a = c .before .before .before .before .before .args in
     let l = c .before .loop in
-    sym (l .inv .same ∙ ap (sets (l .words) (l .o)) (words-none (wordAt (now (a .s)) (now (a .numbers))) (l .k) (l .left) (omega arith)))
+    sym (l .inv .same ∙ ap (sets (l .words) (l .to)) (words-none (wordAt (now (a .s)) (now (a .numbers))) (l .k) (l .left) (omega arith)))
 
 pub expand-vertices-spec : {M : Type 1} → statement M
 expand-vertices-spec =
@@ -85,7 +85,7 @@ expand-vertices-spec =
     mul-words
     slice-write-words
     add-k
-    add-o
+    add-to
     sub-left
     loop-less
     loop-again

@@ -1,0 +1,29 @@
+-- `one_field` meets its contract: the read of a field that is there gives it. Assumes nothing.
+use mathlib.Core.Path.{sym, ap, _∙_}
+use Rattle.bits.specs.Read.{fieldSays}
+use Rattle.bits.proofs.ReadLaws.{known-value, known-whole}
+use borrow.Author.Needs.{needs}
+use Rattle.payload.proofs.mesh.fields.one_field.Statement.{statement}
+use Rattle.payload.proofs.mesh.fields.one_field.Tie as tie
+
+read-requires : tie.Need-read-requires
+read-requires c κs = search needs
+
+enum-known-value : tie.Need-enum-known-value
+enum-known-value c = search needs
+
+enum-told : tie.Need-enum-told
+enum-told c = search needs
+
+returns : tie.Need-returns
+returns c =
+    let a = c .before .before .before .before .before .args in
+    known-value (a .s .now) (a .bit) (a .width) _ _ (ap fieldSays (sym (c .before .value .given .1)) ∙ c .before .before .before .read .ensures)
+
+returns-2 : tie.Need-returns-2
+returns-2 c =
+    let a = c .before .before .before .before in
+    absurd (known-whole (a .args .s .now) (a .args .bit) (a .args .width) (a .pre .0) (a .pre .2) (ap fieldSays (sym (c .enum-told .given .1)) ∙ c .before .before .read .ensures))
+
+pub one-field-spec : {M : Type 1} → statement M
+one-field-spec = tie.close (tie.spec read-requires enum-known-value enum-told returns returns-2)
