@@ -1,7 +1,8 @@
 //! The unit square of a texture with its axes.
 
 use crate::colours::{DIM, GREY};
-use crate::svg::{point, Svg, View};
+use crate::plane::{point, View};
+use crate::svg::Svg;
 
 /// Sides below this length have no marks.
 const MARKED: f64 = 60.0;

@@ -2,8 +2,9 @@
 
 use crate::axes;
 use crate::colours::{colour, GREY};
+use crate::plane::{point, Area, Point, View};
 use crate::scene::{Given, Scene};
-use crate::svg::{point, triangles_style, Area, Path, Point, Svg, View};
+use crate::svg::{triangles_style, Path, Svg};
 
 /// Words of a vertex: x, y, z, u, v.
 const VERTEX: usize = 5;

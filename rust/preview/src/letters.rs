@@ -1,6 +1,7 @@
 //! How wide words are on the page.
 
-/// No less than their width at 12 pixels in the sans-serif fonts of browsers, of which DejaVu Sans and Verdana are wide.
+/// No less than their width at 12 pixels in the sans-serif fonts of browsers, of which DejaVu Sans and Verdana are the
+/// widest.
 pub fn width(words: &str) -> f64 {
     words.chars().map(letter).sum()
 }

@@ -107,7 +107,8 @@ fn values_table(values: &[(&str, String)], unread: u64) -> Table {
 #[cfg(test)]
 mod tests {
     use super::*;
-    use crate::svg::{point, Svg};
+    use crate::plane::point;
+    use crate::svg::Svg;
 
     fn records(submeshes: u32) -> (Vec<u32>, Counts) {
         let records = (0..submeshes)

@@ -11,6 +11,7 @@ mod numbers;
 mod options;
 mod page;
 mod panels;
+mod plane;
 mod ranges;
 mod scene;
 mod sides;

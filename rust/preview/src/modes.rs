@@ -39,7 +39,8 @@ impl Mode {
         }
     }
 
-    /// The points of triangle k. In a strip every other triangle exchanges its first two, so that all turn the same way.
+    /// The points of triangle k. In a strip every other triangle exchanges its first two, so that all turn the same
+    /// way.
     pub fn corners(self, k: usize) -> [usize; 3] {
         match self {
             Mode::Triangles => [3 * k, 3 * k + 1, 3 * k + 2],

@@ -3,8 +3,9 @@
 use crate::letters;
 use crate::listing::{not_read, Listing};
 use crate::options::Drawn;
+use crate::plane::{point, Area};
 use crate::scene::{Counts, Reading, Scene};
-use crate::svg::{point, Area, Svg, WIDTH};
+use crate::svg::{Svg, WIDTH};
 use crate::table::Table;
 use crate::{cube, ranges, space, sphere, textures};
 
@@ -15,7 +16,8 @@ const MARGIN: f64 = 18.0;
 /// Where the picture and the table begin.
 const TOP: f64 = 44.0;
 /// Room for a name in the heading.
-const NAME: f64 = 320.0;
+const NAME: f64 = 300.0;
+const BOLD: &str = "font-size=\"14\" font-weight=\"bold\"";
 
 /// The listing, and the page as SVG.
 pub fn page<'a>(name: &str, drawn: Drawn, scene: &'a Scene, unread: u64) -> (Listing<'a>, String) {
@@ -35,8 +37,6 @@ pub fn page<'a>(name: &str, drawn: Drawn, scene: &'a Scene, unread: u64) -> (Lis
     let bottom = draw(&mut svg, drawn, scene, &listing.table());
     (listing, svg.finish(bottom + MARGIN))
 }
-
-const BOLD: &str = "font-size=\"14\" font-weight=\"bold\"";
 
 fn listing(drawn: Drawn, scene: &Scene, unread: u64) -> Listing<'_> {
     match &scene.reading {

@@ -2,8 +2,8 @@
 
 use crate::numbers::measured;
 use crate::scene::Scene;
-use crate::space::{finite, of_mesh};
-use crate::submeshes::POINT;
+use crate::space::finite;
+use crate::submeshes::{of_mesh, POINT};
 use crate::table::{Side, Table};
 
 const NAMES: [&str; 6] = ["x", "y", "z", "u", "v", "distance"];
@@ -54,7 +54,8 @@ fn extend(range: &mut Option<[f64; 2]>, value: f64) {
 #[cfg(test)]
 mod tests {
     use super::*;
-    use crate::svg::{point, Svg};
+    use crate::plane::point;
+    use crate::svg::Svg;
     use crate::testing;
 
     fn drawn(points: &[[f32; POINT]]) -> String {

@@ -2,7 +2,8 @@
 
 use crate::axes::mark;
 use crate::colours::{GREY, PALE};
-use crate::svg::{point, Area, Point, Svg, View};
+use crate::plane::{point, Area, Point, View};
+use crate::svg::Svg;
 use crate::ticks::ticks;
 
 /// Room around a side's square: for its name, and for its axes' numbers and names.

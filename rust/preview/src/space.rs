@@ -1,10 +1,11 @@
 //! Where the points of a mesh lie: x, y and z, seen from three sides in one scale.
 
 use crate::numbers::thousands;
+use crate::plane::{point, Area};
 use crate::scene::Scene;
 use crate::sides::{Frame, Room, ABOVE, BELOW, LEFT, RIGHT, SIDES};
-use crate::submeshes::{submeshes, Submesh, POINT};
-use crate::svg::{point, Area, Svg};
+use crate::submeshes::{of_mesh, Submesh, POINT};
+use crate::svg::Svg;
 
 /// A side is no larger.
 const LARGEST: f64 = 190.0;
@@ -33,11 +34,6 @@ pub fn draw(svg: &mut Svg, area: Area, scene: &Scene, mesh: usize) -> f64 {
         0 => bottom,
         left_out => draw_note(svg, area.left, bottom + NOTE, left_out),
     }
-}
-
-/// The submeshes of one mesh.
-pub fn of_mesh(scene: &Scene, mesh: usize) -> impl Iterator<Item = Submesh<'_>> {
-    submeshes(scene).filter(move |submesh| submesh.mesh == mesh)
 }
 
 /// x, y and z of a point, where all are finite.

@@ -3,8 +3,9 @@
 use crate::axes::mark;
 use crate::colours::{colour, GREY, PALE};
 use crate::numbers::minus;
+use crate::plane::{point, Area, Point, View};
 use crate::scene::{Crop, Given, Scene};
-use crate::svg::{decimal, point, triangles_style, Area, Path, Point, Svg, View};
+use crate::svg::{decimal, triangles_style, Path, Svg};
 
 /// Words of a vertex: u, v.
 const VERTEX: usize = 2;

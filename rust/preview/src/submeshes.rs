@@ -2,8 +2,9 @@
 
 use crate::colours::colour;
 use crate::modes::Mode;
+use crate::plane::Point;
 use crate::scene::Scene;
-use crate::svg::{triangles_style, Path, Point, Svg};
+use crate::svg::{triangles_style, Path, Svg};
 
 /// Words of a record: mesh, texture, mode, first point, points.
 pub const RECORD: usize = 5;
@@ -29,6 +30,11 @@ pub fn submeshes(scene: &Scene) -> impl Iterator<Item = Submesh<'_>> {
             floats: &scene.floats[first..first + count],
         }
     })
+}
+
+/// Those of one mesh.
+pub fn of_mesh(scene: &Scene, mesh: usize) -> impl Iterator<Item = Submesh<'_>> {
+    submeshes(scene).filter(move |submesh| submesh.mesh == mesh)
 }
 
 /// The points of all submeshes.

@@ -2,7 +2,8 @@
 
 use crate::colours::{DIM, GREY};
 use crate::letters;
-use crate::svg::{point, Area, Point, Svg};
+use crate::plane::{point, Area, Point};
+use crate::svg::Svg;
 
 pub const LINE: f64 = 15.0;
 /// Between columns, and between the rows and what stands below them.

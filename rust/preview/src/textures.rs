@@ -3,9 +3,10 @@
 use crate::axes;
 use crate::numbers::thousands;
 use crate::panels::{Extent, Panels};
+use crate::plane::{point, Area, Point};
 use crate::scene::{Counts, Scene};
 use crate::submeshes::{points, submeshes, POINT};
-use crate::svg::{point, Area, Point, Svg};
+use crate::svg::Svg;
 
 /// Panels that the page shows.
 const PANELS: usize = 24;
