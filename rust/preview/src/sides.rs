@@ -2,9 +2,10 @@
 
 use crate::axes::mark;
 use crate::colours::{GREY, PALE};
+use crate::letters;
 use crate::plane::{point, Area, Point, View};
 use crate::svg::Svg;
-use crate::ticks::ticks;
+use crate::ticks::{Step, Tick};
 
 /// Room around a side's square: for its name, and for its axes' numbers and names.
 pub const LEFT: f64 = 60.0;
@@ -83,6 +84,12 @@ impl Room {
     fn ends(&self, axis: usize) -> [f64; 2] {
         [-0.5, 0.5].map(|share| self.middle[axis] + share * self.side)
     }
+
+    /// Round numbers along an axis, with one step for all three.
+    fn ticks(&self, axis: usize) -> Vec<Tick> {
+        let step = Step::of([0, 1, 2].map(|axis| self.ends(axis)));
+        step.ticks(self.ends(axis))
+    }
 }
 
 /// The square that shows a side.
@@ -137,8 +144,7 @@ impl Frame<'_> {
             height,
         } = self.square;
         let axis = self.side.across;
-        let [low, high] = self.room.ends(axis);
-        for tick in ticks(low, high) {
+        for tick in self.room.ticks(axis) {
             let below = point(self.view.at(point(tick.at, 0.0)).x, top + height);
             svg.line(point(below.x, top), below, &line_style(tick.at));
             if let Some(text) = tick.text {
@@ -157,15 +163,17 @@ impl Frame<'_> {
             height,
         } = self.square;
         let axis = self.side.along;
-        let [low, high] = self.room.ends(axis);
-        for tick in ticks(low, high) {
+        let mut widest = 0f64;
+        for tick in self.room.ticks(axis) {
             let beside = point(left, self.view.at(point(0.0, tick.at)).y);
             svg.line(beside, point(left + width, beside.y), &line_style(tick.at));
             if let Some(text) = tick.text {
                 svg.words(beside.moved(-5.0, 4.0), &number("end"), &text);
+                widest = widest.max(letters::width(&text));
             }
         }
-        let middle = point(left - LEFT + 5.0, top + height / 2.0 + 4.0);
+        let aside = (widest + 12.0).min(LEFT - 5.0);
+        let middle = point(left - aside, top + height / 2.0 + 4.0);
         svg.words(middle, &mark("middle"), AXES[axis]);
     }
 }
