@@ -89,13 +89,13 @@ fn forty_submeshes_have_forty_colours() {
 
 #[test]
 fn one_mesh_is_shown_in_space() {
-    for (mesh, distance) in [("0", "1.732051"), ("1", "1.732051")] {
+    // its submeshes from three sides, beside the five of both meshes
+    for (mesh, paths) in [("0", 5 + 3 * 3), ("1", 5 + 3 * 2)] {
         let svg = drawn("mesh", "two_eyes.bin", "space.svg", &["--mesh", mesh]);
         assert!(says(&svg, &format!("mesh {mesh} in space")));
         assert_eq!(svg.matches(" in space<").count(), 1);
-        for words in [
-            "front", "top", "side", "x", "y", "z", "least", "greatest", distance,
-        ] {
+        assert_eq!(svg.matches("<path").count(), paths);
+        for words in ["front", "top", "side", "x", "y", "z", "least", "greatest"] {
             assert!(says(&svg, words), "{words}");
         }
     }
