@@ -84,6 +84,14 @@ def word(x):
     return int.from_bytes(struct.pack(">f", round(x * 4096) / 4096 + 0.0), "big")
 
 
+def pooled(points):
+    """The pool of the points' coordinates, and the points as vertices over it."""
+    rows = [[word(x) for x in point] for point in points]
+    pool = sorted({x for row in rows for x in row})
+    numbers = {x: number for number, x in enumerate(pool)}
+    return pool, [tuple(numbers[x] for x in row) for row in rows]
+
+
 def dome(texture, centre, turn, sectors=24, rings=5):
     """Half a sphere seen by a fisheye lens: a fan in the middle, a strip for each further ring.
 
@@ -96,10 +104,7 @@ def dome(texture, centre, turn, sectors=24, rings=5):
         far = 0.29 * off + 0.004 * off**3
         points.append((sin(off) * cos(around), sin(off) * sin(around), -cos(off),
                        centre[0] + far * cos(around + turn), centre[1] + far * sin(around + turn)))
-    rows = [[word(x) for x in point] for point in points]
-    pool = sorted({x for row in rows for x in row})
-    numbers = {x: number for number, x in enumerate(pool)}
-    vertices = [tuple(numbers[x] for x in row) for row in rows]
+    pool, vertices = pooled(points)
 
     def at(ring, sector):
         return 1 + (ring - 1) * sectors + sector % sectors
@@ -107,6 +112,19 @@ def dome(texture, centre, turn, sectors=24, rings=5):
     fan = [0] + [at(1, sector) for sector in range(sectors + 1)]
     strips = [[at(ring + far, sector) for sector in range(sectors + 1) for far in (0, 1)] for ring in range(1, rings)]
     return pool, vertices, [(texture, 2, fan)] + [(texture, 1, strip) for strip in strips]
+
+
+def globe(texture, gores=40, rings=8):
+    """A whole sphere whose texture is a map of longitude and latitude: a strip for each gore, from pole to pole."""
+    places = [(ring / rings, gore / gores) for gore in range(gores + 1) for ring in range(rings + 1)]
+    points = []
+    for v, u in places:
+        latitude, longitude = (v - 0.5) * pi, (u - 0.5) * 2 * pi
+        points.append((cos(latitude) * sin(longitude), sin(latitude), -cos(latitude) * cos(longitude), u, v))
+    pool, vertices = pooled(points)
+    row = rings + 1
+    strips = [[row * (gore + far) + ring for ring in range(row) for far in (1, 0)] for gore in range(gores)]
+    return pool, vertices, [(texture, 1, strip) for strip in strips]
 
 
 def equi(*bounds):
@@ -146,5 +164,7 @@ save("refused_8", m1[:38] + b"\x0f" + m1[39:], "refused 8\n")
 
 eyes = [dome(0, (0.49, 0.51), 0.0), dome(1, (0.52, 0.49), 0.06)]
 save("dome", b"".join(mesh(*eye) for eye in eyes), listing([eye[2] for eye in eyes]))
+sphere = globe(0)
+save("globe", mesh(*sphere), listing([sphere[2]]))
 (HERE / "crop.equi").write_bytes(equi(1 / 16, 1 / 8, 1 / 4, 1 / 4))
 (HERE / "cube.cbmp").write_bytes(cbmp(64))

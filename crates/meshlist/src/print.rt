@@ -1,4 +1,5 @@
-// Lines of text on standard output. Each function answers whether all of it was written.
+// Lines of text, all but the last on standard output. Each function answers whether all of it was written.
+use libc::STDERR_FILENO;
 use libc::STDOUT_FILENO;
 
 fn print_number(n: u64, after: u8) -> bool {
@@ -31,4 +32,12 @@ pub fn print_total(meshes: usize, submeshes: usize, points: usize) -> bool {
 
 pub fn print_refusal(number: u8) -> bool {
     io::write_all(STDOUT_FILENO, b"refused ") && print_number(number as u64, b'\n')
+}
+
+// How the program is used, on standard error.
+pub fn print_use() -> bool {
+    io::write_all(
+        STDERR_FILENO,
+        b"meshlist: reads a mesh list from standard input; arguments are not used: meshlist < FILE\n",
+    )
 }

@@ -1,6 +1,8 @@
 //! The unit square of a texture with its axes.
 
-use crate::svg::{point, Svg, View, GREY};
+use crate::colours::{DIM, GREY};
+use crate::plane::{point, View};
+use crate::svg::Svg;
 
 /// Sides below this length have no marks.
 const MARKED: f64 = 60.0;
@@ -14,17 +16,17 @@ pub fn unit_square(svg: &mut Svg, view: &View) {
     if view.scale.x < MARKED || view.scale.y < MARKED {
         return;
     }
-    for (share, mark) in [(0.0, "0"), (0.5, "u"), (1.0, "1")] {
+    for (share, text) in [(0.0, "0"), (0.5, "u"), (1.0, "1")] {
         let at = view.at(point(share, 0.0));
-        svg.words(at.moved(0.0, 16.0), &grey("middle"), mark);
+        svg.words(at.moved(0.0, 16.0), &mark("middle"), text);
     }
-    for (share, mark) in [(0.0, "0"), (0.5, "v"), (1.0, "1")] {
+    for (share, text) in [(0.0, "0"), (0.5, "v"), (1.0, "1")] {
         let at = view.at(point(0.0, share));
-        svg.words(at.moved(-6.0, 4.0), &grey("end"), mark);
+        svg.words(at.moved(-6.0, 4.0), &mark("end"), text);
     }
 }
 
-/// Grey words with this end, or their middle, at their place.
-pub fn grey(anchor: &str) -> String {
-    format!("fill=\"#777\" text-anchor=\"{anchor}\"")
+/// The style of a mark with this end, or its middle, at its place.
+pub fn mark(anchor: &str) -> String {
+    format!("fill=\"{DIM}\" text-anchor=\"{anchor}\"")
 }

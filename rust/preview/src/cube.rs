@@ -1,11 +1,10 @@
 //! A cube map: its six faces in the texture, with the padding between them.
 
-use probe_sys::Given;
-
 use crate::axes;
-use crate::listing::Listing;
-use crate::scene::Scene;
-use crate::svg::{colour, point, triangles_style, Area, Path, Point, Svg, View, GREY};
+use crate::colours::{colour, GREY};
+use crate::plane::{point, Area, Point, View};
+use crate::scene::{Given, Scene};
+use crate::svg::{triangles_style, Path, Svg};
 
 /// Words of a vertex: x, y, z, u, v.
 const VERTEX: usize = 5;
@@ -21,8 +20,8 @@ const RIGHT: f64 = 10.0;
 const ABOVE: f64 = 14.0;
 const BELOW: f64 = 46.0;
 
-pub fn listing(padding: u32, given: Given, scene: &Scene) -> Listing {
-    Listing::of_values(&[
+pub fn values(padding: u32, given: Given, scene: &Scene) -> Vec<(&'static str, String)> {
+    vec![
         ("padding", padding.to_string()),
         ("face-width", given.face_width.to_string()),
         ("cells", given.cells.to_string()),
@@ -30,7 +29,7 @@ pub fn listing(padding: u32, given: Given, scene: &Scene) -> Listing {
         ("numbers", scene.numbers.len().to_string()),
         ("floats", scene.floats.len().to_string()),
         ("records", scene.records.len().to_string()),
-    ])
+    ]
 }
 
 /// Draws the faces, and answers where they end.
@@ -97,7 +96,7 @@ fn direction(face: &[u32]) -> Option<String> {
         };
         let sign = match (all(|x| x > 0.0), all(|x| x < 0.0)) {
             (true, _) => "+",
-            (_, true) => "-",
+            (_, true) => "\u{2212}",
             _ => return None,
         };
         Some(format!("{sign}{name}"))
@@ -138,7 +137,7 @@ mod tests {
         ];
         assert_eq!(direction(&face(&right)).as_deref(), Some("+x"));
         let back = right.map(|[x, y, z]| [y, z, -x]);
-        assert_eq!(direction(&face(&back)).as_deref(), Some("-z"));
+        assert_eq!(direction(&face(&back)).as_deref(), Some("\u{2212}z"));
         assert_eq!(direction(&face(&[[0.0; 3]; 4])), None);
     }
 }

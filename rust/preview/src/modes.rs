@@ -20,6 +20,16 @@ impl Mode {
         }
     }
 
+    /// A mode's number, with its name in the format.
+    pub fn named(number: u32) -> String {
+        match Mode::of(number) {
+            Mode::Triangles => format!("{number} triangles"),
+            Mode::Strip => format!("{number} triangle strip"),
+            Mode::Fan => format!("{number} triangle fan"),
+            Mode::Other => number.to_string(),
+        }
+    }
+
     /// How many triangles so many points make.
     pub fn triangles(self, points: usize) -> usize {
         match self {
@@ -29,7 +39,8 @@ impl Mode {
         }
     }
 
-    /// The points of triangle k. In a strip every other triangle exchanges its first two, so that all turn the same way.
+    /// The points of triangle k. In a strip every other triangle exchanges its first two, so that all turn the same
+    /// way.
     pub fn corners(self, k: usize) -> [usize; 3] {
         match self {
             Mode::Triangles => [3 * k, 3 * k + 1, 3 * k + 2],
@@ -43,6 +54,19 @@ impl Mode {
 #[cfg(test)]
 mod tests {
     use super::*;
+
+    #[test]
+    fn names_beside_numbers() {
+        let names = [0, 1, 2, 3, 255].map(Mode::named);
+        let texts = [
+            "0 triangles",
+            "1 triangle strip",
+            "2 triangle fan",
+            "3",
+            "255",
+        ];
+        assert_eq!(names, texts);
+    }
 
     fn all(number: u32, points: usize) -> Vec<[usize; 3]> {
         let mode = Mode::of(number);

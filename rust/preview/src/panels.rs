@@ -1,6 +1,6 @@
 //! Panels of one size and one scale, row by row.
 
-use crate::svg::{point, Area, Point, View};
+use crate::plane::{point, Area, Point, View};
 
 /// Room around what a panel shows.
 const LEFT: f64 = 22.0;

@@ -1,9 +1,10 @@
-//! The scene call, with buffers as long as it needs.
+//! The scene call, with buffers as long as it needs. The library is called in this file alone.
 
 use std::fmt;
 
 use hoodsorrel_viewer::Refusal;
-use probe_sys::{Crop, Given, NEEDS};
+use probe_sys::NEEDS;
+pub use probe_sys::{Crop, Given};
 
 /// Words of an answer.
 const WORDS: usize = 8;
@@ -106,6 +107,17 @@ fn refused(code: i64) -> Failure {
 }
 
 impl Reading {
+    /// How many bytes of a payload of this length are not read: kinds 0 and 1 read the first 20 and 12, and those after
+    /// them are free. A mesh list's boxes go on to its end.
+    pub fn unread(&self, length: usize) -> u64 {
+        let read = match self {
+            Reading::Crop(_) => 20,
+            Reading::Padding(_) => 12,
+            Reading::Meshes(_) => length,
+        };
+        length.saturating_sub(read) as u64
+    }
+
     fn of([case, a, b, c, d, ..]: [u64; WORDS]) -> Option<Reading> {
         match case {
             0 => Some(Reading::Crop(

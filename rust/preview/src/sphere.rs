@@ -1,13 +1,11 @@
 //! A crop: the grid of its texture, at its place on the whole sphere.
 
-use probe_sys::{Crop, Given};
-
-use crate::axes::grey;
-use crate::listing::Listing;
-use crate::scene::Scene;
-use crate::svg::{
-    colour, decimal, point, triangles_style, Area, Path, Point, Svg, View, GREY, PALE,
-};
+use crate::axes::mark;
+use crate::colours::{colour, GREY, PALE};
+use crate::numbers::minus;
+use crate::plane::{point, Area, Point, View};
+use crate::scene::{Crop, Given, Scene};
+use crate::svg::{decimal, triangles_style, Path, Svg};
 
 /// Words of a vertex: u, v.
 const VERTEX: usize = 2;
@@ -23,8 +21,12 @@ const STACKED: f64 = 14.0;
 /// The least side of an outline.
 const LEAST: f64 = 0.5;
 
-pub fn listing([top, bottom, left, right]: Crop, given: Given, scene: &Scene) -> Listing {
-    Listing::of_values(&[
+pub fn values(
+    [top, bottom, left, right]: Crop,
+    given: Given,
+    scene: &Scene,
+) -> Vec<(&'static str, String)> {
+    vec![
         ("top", top.to_string()),
         ("bottom", bottom.to_string()),
         ("left", left.to_string()),
@@ -34,7 +36,7 @@ pub fn listing([top, bottom, left, right]: Crop, given: Given, scene: &Scene) ->
         ("numbers", scene.numbers.len().to_string()),
         ("floats", scene.floats.len().to_string()),
         ("records", scene.records.len().to_string()),
-    ])
+    ]
 }
 
 /// Draws the grid on the sphere, and answers where that ends.
@@ -89,12 +91,12 @@ fn draw_sphere(svg: &mut Svg, sphere: &View) {
     svg.rect(sphere.square(), &frame);
     for share in [0.0, 0.25, 0.5, 0.75, 1.0] {
         let below = at(share, 0.0).moved(0.0, 18.0);
-        svg.words(below, &grey("middle"), &degrees(longitude(share)));
+        svg.words(below, &mark("middle"), &degrees(longitude(share)));
         let beside = at(0.0, share).moved(-6.0, 4.0);
-        svg.words(beside, &grey("end"), &degrees(latitude(share)));
+        svg.words(beside, &mark("end"), &degrees(latitude(share)));
     }
-    svg.words(at(0.5, 0.0).moved(0.0, 36.0), &grey("middle"), "longitude");
-    svg.upward_words(at(0.0, 0.5).moved(-48.0, 0.0), &grey("middle"), "latitude");
+    svg.words(at(0.5, 0.0).moved(0.0, 36.0), &mark("middle"), "longitude");
+    svg.upward_words(at(0.0, 0.5).moved(-48.0, 0.0), &mark("middle"), "latitude");
     let caption =
         "the grid is the crop's texture: u from left to right, v upwards, both from 0 to 1";
     svg.words(at(0.0, 0.0).moved(0.0, 58.0), "", caption);
@@ -162,7 +164,7 @@ fn latitude(share: f64) -> f64 {
 }
 
 fn degrees(x: f64) -> String {
-    format!("{}°", decimal(x))
+    format!("{}°", minus(&decimal(x)))
 }
 
 #[cfg(test)]
@@ -186,9 +188,9 @@ mod tests {
         let [west, east] = [0.25, 1.0 - 0.25].map(longitude);
         assert_eq!(
             (degrees(west), degrees(east)),
-            ("-90°".into(), "90°".into())
+            ("\u{2212}90°".into(), "90°".into())
         );
         assert_eq!(degrees(latitude(1.0 - 0.0625)), "78.75°");
-        assert_eq!(degrees(latitude(0.0)), "-90°");
+        assert_eq!(degrees(latitude(0.0)), "\u{2212}90°");
     }
 }

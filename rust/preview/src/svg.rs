@@ -2,91 +2,18 @@
 
 use std::fmt::Write;
 
+use crate::colours::INK;
+use crate::plane::{Area, Point};
+
 pub const WIDTH: f64 = 900.0;
-
-const INK: &str = "#333";
-pub const GREY: &str = "#999";
-pub const PALE: &str = "#ccc";
-
-const PALETTE: [&str; 10] = [
-    "#3f6d99", "#b8653e", "#5b8c5a", "#7d5f96", "#a8862f", "#3b8686", "#a3546f", "#6f6f6f",
-    "#7f9136", "#5f72b5",
-];
-
-/// The colour of the thing with this number.
-pub fn colour(number: usize) -> &'static str {
-    PALETTE[number % PALETTE.len()]
-}
 
 /// The style of triangles about as large as `size`: lines that leave room between them, and a fill of low opacity.
 pub fn triangles_style(colour: &str, size: f64) -> String {
     let width = decimal((size / 8.0).clamp(0.05, 0.7));
     format!(
-        "fill=\"{colour}\" fill-opacity=\"0.18\" stroke=\"{colour}\" stroke-width=\"{width}\" \
+        "fill=\"{colour}\" fill-opacity=\"0.35\" stroke=\"{colour}\" stroke-width=\"{width}\" \
          stroke-linejoin=\"round\""
     )
-}
-
-#[derive(Clone, Copy)]
-pub struct Point {
-    pub x: f64,
-    pub y: f64,
-}
-
-pub const fn point(x: f64, y: f64) -> Point {
-    Point { x, y }
-}
-
-impl Point {
-    /// u and v, of the bits of two floats.
-    pub fn of_bits(words: [u32; 2]) -> Point {
-        let [u, v] = words.map(|word| f64::from(f32::from_bits(word)));
-        point(u, v)
-    }
-
-    pub fn moved(self, right: f64, down: f64) -> Point {
-        Point {
-            x: self.x + right,
-            y: self.y + down,
-        }
-    }
-}
-
-/// A part of the page.
-#[derive(Clone, Copy)]
-pub struct Area {
-    pub left: f64,
-    pub top: f64,
-    pub width: f64,
-    pub height: f64,
-}
-
-/// Where u and v lie on the page: u to the right, v upwards.
-#[derive(Clone, Copy)]
-pub struct View {
-    /// The place of u = v = 0.
-    pub origin: Point,
-    /// The length of 1 along u and along v.
-    pub scale: Point,
-}
-
-impl View {
-    pub fn at(&self, uv: Point) -> Point {
-        Point {
-            x: self.origin.x + uv.x * self.scale.x,
-            y: self.origin.y - uv.y * self.scale.y,
-        }
-    }
-
-    /// The unit square.
-    pub fn square(&self) -> Area {
-        Area {
-            left: self.origin.x,
-            top: self.origin.y - self.scale.y,
-            width: self.scale.x,
-            height: self.scale.y,
-        }
-    }
 }
 
 /// The page. Words are escaped here.
@@ -178,9 +105,13 @@ impl Path {
         path
     }
 
+    /// All turn the same way, so that triangles over each other leave no hole.
     pub fn triangle(&mut self, corners: [Point; 3]) {
-        let [a, b, c] = corners.map(|at| [hundredths(at.x), hundredths(at.y)]);
+        let [a, mut b, mut c] = corners.map(|at| [hundredths(at.x), hundredths(at.y)]);
         let step = |from: [i64; 2], to: [i64; 2]| [to[0] - from[0], to[1] - from[1]];
+        if turn(step(a, b), step(a, c)) < 0 {
+            (b, c) = (c, b);
+        }
         let [[ax, ay], [bx, by], [cx, cy]] =
             [a, step(a, b), step(b, c)].map(|place| place.map(of_hundredths));
         write!(self.text, "M{ax} {ay}l{bx} {by} {cx} {cy}z").expect("a string takes all text");
@@ -191,6 +122,12 @@ impl Path {
         let [x, y] = [at.x, at.y].map(decimal);
         write!(self.text, "M{x} {y}h0").expect("a string takes all text");
     }
+}
+
+/// Above 0 where the second step turns to the right of the first one, as the page is seen.
+fn turn(one: [i64; 2], other: [i64; 2]) -> i128 {
+    let [[x, y], [u, v]] = [one, other].map(|step| step.map(i128::from));
+    x * v - y * u
 }
 
 /// At most two decimals.
@@ -233,6 +170,7 @@ pub fn escape(text: &str) -> String {
 #[cfg(test)]
 mod tests {
     use super::*;
+    use crate::plane::point;
 
     #[test]
     fn escaped_names() {
@@ -263,18 +201,17 @@ mod tests {
     fn a_triangle_goes_by_steps_between_rounded_corners() {
         let mut path = Path::default();
         let [a, b, c] = [(0.004, 1.0), (1.004, 1.0), (1.006, 0.5)].map(|(x, y)| point(x, y));
-        path.triangle([a, b, c]);
-        assert_eq!(path.text, "M0 1l1 0 0.01 -0.5z");
+        path.triangle([a, c, b]);
+        assert_eq!(path.text, "M0 1l1.01 -0.5 -0.01 0.5z");
     }
 
     #[test]
-    fn v_runs_upwards() {
-        let view = View {
-            origin: point(10.0, 100.0),
-            scale: point(40.0, 20.0),
-        };
-        let at = view.at(point(0.5, 1.0));
-        assert_eq!((at.x, at.y), (30.0, 80.0));
-        assert_eq!((view.square().left, view.square().top), (10.0, 80.0));
+    fn triangles_turn_the_same_way() {
+        let [a, b, c] = [(0.0, 0.0), (2.0, 0.0), (0.0, 1.0)].map(|(x, y)| point(x, y));
+        let [mut one, mut other] = [Path::default(), Path::default()];
+        one.triangle([a, b, c]);
+        other.triangle([a, c, b]);
+        assert_eq!(one.text, "M0 0l2 0 -2 1z");
+        assert_eq!(one.text, other.text);
     }
 }

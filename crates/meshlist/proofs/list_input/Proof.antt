@@ -1,10 +1,10 @@
--- `main` is safe: what was read lies within the array. Assumes nothing.
+-- `list_input` is safe: what was read lies within the array. Assumes nothing.
 use mathlib.Core.Path.{sym}
 use lib.Seq.{length-take-le}
 use borrow.Author.Needs.{needs}
 use Rattle.meshlist.proofs.InputLaws.{came}
-use Rattle.meshlist.proofs.main.Statement.{statement}
-use Rattle.meshlist.proofs.main.Tie as tie
+use Rattle.meshlist.proofs.list_input.Statement.{statement}
+use Rattle.meshlist.proofs.list_input.Tie as tie
 
 slice-aggregate-read-input : tie.Need-slice-aggregate-read-input
 slice-aggregate-read-input c = search needs
@@ -48,8 +48,8 @@ returns-2 c = search needs
 returns-3 : tie.Need-returns-3
 returns-3 c = search needs
 
-pub main-spec : {M : Type 1} → statement M
-main-spec =
+pub list-input-spec : {M : Type 1} → statement M
+list-input-spec =
     tie.close
     (tie.spec
     slice-aggregate-read-input

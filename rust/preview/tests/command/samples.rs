@@ -1,43 +1,9 @@
 //! The command on the project's samples, whole and damaged.
 
 use std::fs;
-use std::path::{Path, PathBuf};
-use std::process::{Command, Output};
+use std::process::Output;
 
-fn samples() -> PathBuf {
-    Path::new(env!("CARGO_MANIFEST_DIR")).join("../../samples")
-}
-
-/// A place for a picture, with nothing there.
-fn place(name: &str) -> PathBuf {
-    let file = Path::new(env!("CARGO_TARGET_TMPDIR")).join(name);
-    let _ = fs::remove_file(&file);
-    file
-}
-
-/// What `preview KIND FILE --out OUT WORDS..` does, the file being a sample.
-fn preview(kind: &str, sample: &str, out: &Path, words: &[&str]) -> Output {
-    Command::new(env!("CARGO_BIN_EXE_preview"))
-        .arg(kind)
-        .arg(samples().join(sample))
-        .arg("--out")
-        .arg(out)
-        .args(words)
-        .output()
-        .expect("it starts")
-}
-
-fn text(bytes: &[u8]) -> &str {
-    std::str::from_utf8(bytes).expect("it writes text")
-}
-
-/// The picture that was written, after a look at the status and the listing.
-fn picture(output: &Output, listing: &str, out: &Path) -> String {
-    assert_eq!(text(&output.stderr), "");
-    assert_eq!(output.status.code(), Some(0));
-    assert_eq!(text(&output.stdout), listing);
-    fs::read_to_string(out).expect("a picture")
-}
+use crate::run::{picture, place, preview, samples, text};
 
 fn refused(output: &Output, message: &str) {
     assert_eq!(text(&output.stderr), format!("{message}\n"));
@@ -47,10 +13,17 @@ fn refused(output: &Output, message: &str) {
 
 #[test]
 fn a_mesh_list_is_listed_as_stored_and_drawn() {
-    for (sample, paths) in [("m1", 1), ("two_eyes", 5), ("empty", 0), ("dome", 10)] {
+    // one for each submesh, and three more for each of mesh 0
+    for (sample, paths) in [
+        ("m1", 1 + 3),
+        ("two_eyes", 5 + 3 * 3),
+        ("empty", 0),
+        ("dome", 10 + 3 * 5),
+        ("globe", 40 + 3 * 40),
+    ] {
         let out = place(&format!("{sample}.svg"));
         let listing = fs::read_to_string(samples().join(format!("{sample}.txt"))).expect(sample);
-        let output = preview("mesh", &format!("{sample}.bin"), &out, &[]);
+        let output = preview("mesh", format!("{sample}.bin"), &out, &[]);
         let svg = picture(&output, &listing, &out);
         assert!(svg.starts_with("<svg ") && svg.ends_with("</svg>\n"));
         assert!(svg.contains(&format!("<title>{sample}.bin: a mesh list")));
@@ -67,7 +40,7 @@ fn a_crop_is_drawn_with_its_borders() {
                    numbers 144\nfloats 70\nrecords 0\n";
     let svg = picture(&output, listing, &out);
     assert_eq!(svg.matches('M').count(), 144 / 3);
-    for border in ["78.75°", "-67.5°"] {
+    for border in ["78.75°", "\u{2212}67.5°"] {
         assert!(svg.contains(border), "{border}");
     }
 }
@@ -80,7 +53,8 @@ fn a_cube_map_is_drawn_by_faces() {
                    numbers 576\nfloats 750\nrecords 0\n";
     let svg = picture(&output, listing, &out);
     assert_eq!(svg.matches("<path").count(), 6);
-    let labels = [">+x<", ">-x<", ">+y<", ">-y<", ">-z<", ">+z<"];
+    let [left, down, ahead] = ["x", "y", "z"].map(|axis| format!(">\u{2212}{axis}<"));
+    let labels = [">+x<", &left, ">+y<", &down, &ahead, ">+z<"];
     assert!(labels
         .map(|label| svg.find(label).expect(label))
         .is_sorted());
@@ -128,22 +102,12 @@ fn each_refusal_is_the_scene_call_s() {
     ] {
         let output = preview(kind, sample, &out, words);
         assert_eq!(output.status.code(), Some(1), "{sample} {number}");
+        assert_eq!(text(&output.stdout), "");
         let message = text(&output.stderr);
         assert!(
             message.starts_with(&format!("refused {number}: ")),
             "{message}"
         );
-        assert!(!out.exists());
-    }
-}
-
-#[test]
-fn a_wrong_line_exits_with_2() {
-    let out = place("wrong.svg");
-    for words in [&["--colour", "red"][..], &["--rings"], &["another"]] {
-        let output = preview("mesh", "m1.bin", &out, words);
-        assert_eq!(output.status.code(), Some(2));
-        assert!(text(&output.stderr).contains("usage: preview KIND FILE"));
         assert!(!out.exists());
     }
 }
@@ -164,8 +128,7 @@ fn a_file_that_cannot_be_read_or_written_is_named() {
 fn the_payload_is_never_replaced() {
     let payload = place("payload.svg");
     fs::copy(samples().join("m1.bin"), &payload).unwrap();
-    let sample = payload.to_str().expect("a name in letters");
-    let output = preview("mesh", sample, &payload, &[]);
+    let output = preview("mesh", &payload, &payload, &[]);
     assert_eq!(output.status.code(), Some(1));
     assert!(text(&output.stderr).contains("--out"));
     let bytes = fs::read(samples().join("m1.bin")).unwrap();

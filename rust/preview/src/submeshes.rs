@@ -1,0 +1,81 @@
+//! The submeshes of a mesh list, and their drawing on a plane.
+
+use crate::colours::colour;
+use crate::modes::Mode;
+use crate::plane::Point;
+use crate::scene::Scene;
+use crate::svg::{triangles_style, Path, Svg};
+
+/// Words of a record: mesh, texture, mode, first point, points.
+pub const RECORD: usize = 5;
+/// Words of a drawn point: x, y, z, u, v.
+pub const POINT: usize = 5;
+
+pub struct Submesh<'a> {
+    number: usize,
+    pub mesh: usize,
+    mode: Mode,
+    floats: &'a [u32],
+}
+
+/// The submeshes of a scene, in their order.
+pub fn submeshes(scene: &Scene) -> impl Iterator<Item = Submesh<'_>> {
+    let records = scene.records.chunks_exact(RECORD).enumerate();
+    records.map(|(number, record)| {
+        let [first, count] = [record[3], record[4]].map(|points| POINT * points as usize);
+        Submesh {
+            number,
+            mesh: record[0] as usize,
+            mode: Mode::of(record[2]),
+            floats: &scene.floats[first..first + count],
+        }
+    })
+}
+
+/// Those of one mesh.
+pub fn of_mesh(scene: &Scene, mesh: usize) -> impl Iterator<Item = Submesh<'_>> {
+    submeshes(scene).filter(move |submesh| submesh.mesh == mesh)
+}
+
+/// The points of all submeshes.
+pub fn points(scene: &Scene) -> impl Iterator<Item = [f64; POINT]> + '_ {
+    scene.floats.chunks_exact(POINT).map(coordinates)
+}
+
+impl Submesh<'_> {
+    /// x, y, z, u, v of each point.
+    pub fn points(&self) -> impl Iterator<Item = [f64; POINT]> + '_ {
+        self.floats.chunks_exact(POINT).map(coordinates)
+    }
+
+    /// One path on a picture about as wide as `width`: triangles, or the points as dots. `at` says where a point lies
+    /// on the page; a triangle with a point that lies nowhere is left out.
+    pub fn draw(&self, svg: &mut Svg, width: f64, at: impl Fn([f64; POINT]) -> Option<Point>) {
+        let count = self.floats.len() / POINT;
+        let place = |point: usize| at(coordinates(&self.floats[POINT * point..]));
+        let mut path = Path::default();
+        let style = match self.mode {
+            Mode::Other => {
+                (0..count).filter_map(place).for_each(|at| path.dot(at));
+                dots_style(colour(self.number))
+            }
+            mode => {
+                for k in 0..mode.triangles(count) {
+                    if let [Some(a), Some(b), Some(c)] = mode.corners(k).map(place) {
+                        path.triangle([a, b, c]);
+                    }
+                }
+                triangles_style(colour(self.number), width / (count as f64).sqrt())
+            }
+        };
+        svg.path(&path, &style);
+    }
+}
+
+fn coordinates(words: &[u32]) -> [f64; POINT] {
+    [0, 1, 2, 3, 4].map(|word| f64::from(f32::from_bits(words[word])))
+}
+
+fn dots_style(colour: &str) -> String {
+    format!("fill=\"none\" stroke=\"{colour}\" stroke-width=\"3\" stroke-linecap=\"round\"")
+}
