@@ -1,4 +1,7 @@
-//! Copies the reference's sources into OUT_DIR with their private items made visible.
+//! Copies the reference's sources into OUT_DIR with their private items made visible, if they are the ones meant: those
+//! whose digests SHA256SUMS has.
+
+mod sha256;
 
 use std::env;
 use std::fs;
@@ -10,6 +13,9 @@ const FILES: [&str; 2] = ["mesh", "pano"];
 /// Where the sources are if REFERENCE_SRC does not say, seen from the project's root.
 const DEFAULT_FOLDER: &str = "../shared/docs/src/src";
 
+/// The digests, as `sha256sum` prints them.
+const SUMS: &str = include_str!("SHA256SUMS");
+
 fn main() {
     println!("cargo:rerun-if-env-changed=REFERENCE_SRC");
     let from = source_folder();
@@ -18,6 +24,12 @@ fn main() {
     for name in FILES {
         let file = format!("{name}.rs");
         let original = read(&from.join(&file));
+        if !is_meant(&file, &original) {
+            fail(&format!(
+                "{} is not the file meant: rust/reference/SHA256SUMS has another digest",
+                from.join(&file).display()
+            ));
+        }
         let copy = made_visible(&original);
         if without_visibility(&original) != without_visibility(&copy) {
             fail(&format!("the copy of {file} differs in more than `pub `"));
@@ -33,6 +45,11 @@ fn source_folder() -> PathBuf {
     let here = PathBuf::from(env::var_os("CARGO_MANIFEST_DIR").expect("cargo sets it"));
     let folder = env::var_os("REFERENCE_SRC").unwrap_or(DEFAULT_FOLDER.into());
     here.join("../..").join(folder)
+}
+
+fn is_meant(file: &str, text: &str) -> bool {
+    SUMS.lines()
+        .any(|line| line == format!("{}  {file}", sha256::digest(text.as_bytes())))
 }
 
 fn read(path: &Path) -> String {
