@@ -75,7 +75,7 @@ returns-2 c =
     let j : e .args .run .limit ≤ 65536 = omega arith in
     sym
     (l .inv .0
-    ∙ two-out (e .args .s .now) (e .args .width) (e .args .run .limit) (l .left) (l .bit) (l .last) (e₁ .before .stepped .result) (c .before .stepped2 .result) (omega (arith, e .pre .1 .0)) j (h .0) (h .1 .whole) ea (e₁ .if1 .left) eb (c .if2 .taken))
+    ∙ two-out (e .args .s .now) (e .args .width) (e .args .run .limit) (l .left) (l .bit) (l .last) (e₁ .before .stepped .result) (c .before .stepped2 .result) (omega (arith, e .pre .1 .0)) j (h .0) (h .1 .whole) ea (e₁ .if1 .left) eb (omega (arith, c .if2 .taken)))
 
 cast-last : tie.Need-cast-last Inv-loop μ-loop
 cast-last c = omega arith
@@ -104,7 +104,7 @@ loop-again c =
     let eb = c .before .stepped2 .ensures ∙ ap (steppedTo (e₁ .before .stepped .result)) (f .ensures .1) in
     let j : e .args .run .limit ≤ 65536 = omega arith in (
       l .inv .0
-          ∙ two-on (e .args .s .now) (e .args .width) (e .args .run .limit) (l .left) (l .bit) (l .last) (e₁ .before .stepped .result) (c .before .stepped2 .result) (omega (arith, e .pre .1 .0)) j (h .0) (h .1 .whole) ea (e₁ .if1 .left) eb (c .if2 .left),
+          ∙ two-on (e .args .s .now) (e .args .width) (e .args .run .limit) (l .left) (l .bit) (l .last) (e₁ .before .stepped .result) (c .before .stepped2 .result) (omega (arith, e .pre .1 .0)) j (h .0) (h .1 .whole) ea (e₁ .if1 .left) eb (omega (arith, c .if2 .left)),
       h .2,
       omega arith,
       omega (arith, h .0, l .inv .3),
