@@ -12,13 +12,13 @@ use Rattle.bits.specs.Verdict.{Verdict, accepted, needs, declined, limit
 use Rattle.bits.specs.Field.{field}
 use Rattle.bits.specs.Number.{steppedTo, widthOf}
 use Rattle.bits.specs.Run.{Found, inFront, readRun, judged, low16}
-use Rattle.bits.specs.Internal.{Inside, five, MovedBy, allBelow, fiveLow}
+use Rattle.bits.specs.Internal.{Inside, five, allBelow, fiveLow}
 use Rattle.bits.specs.declared.fields.runs.Five.{Five}
 use Rattle.bits.specs.declared.fields.runs.Moved.{Moved}
 use Rattle.bits.proofs.VerdictLaws.{le-or-lt, clash, both-true, limited-yes, limited-no}
 use Rattle.bits.proofs.FieldLaws.{field-below}
 use Rattle.bits.proofs.NumberLaws.{stepped-in, stepped-out, width-least}
-use Rattle.bits.proofs.RunLaws.{run-short, run-out, run-on}
+use Rattle.bits.proofs.RunLaws.{run-short, run-out, run-on, FiveTo}
 
 -- ---- room for fields
 
@@ -110,7 +110,7 @@ module _ (limit : ℕ) (r : Moved) where
       (λ i. ea i ∷ eb i ∷ ec i ∷ ed i ∷ ee i ∷ [])
 
 module _ (s : List ℕ) (w limit n p : ℕ) (v : Five) (r : Moved) (hw : w ≤ 17) (hl : limit ≤ 65536) (o : 5 ≤ n)
-    (h : p + 5 * w ≤ 8 * length s) (k : MovedBy s w p v r) where
+    (h : p + 5 * w ≤ 8 * length s) (k : FiveTo s w p v r) where
   abbrev Answer : ℕ → ℕ → List ℕ → Verdict (Unit {0})
   Answer n p prior = judged (readRun s w limit n p prior)
 

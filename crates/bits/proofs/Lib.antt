@@ -12,5 +12,6 @@ pub mod RunLaws
 pub mod JudgedLaws
 pub mod SummedLaws
 pub mod ThereLaws
+pub mod RefusalLaws
 pub mod Marked
 pub mod Theorems

@@ -9,10 +9,14 @@ use lib.ListN.{length, getD, length-append}
 use borrow.Author.Tests.{le-leb, lt-leb, leb-true}
 use Rattle.bits.specs.Verdict.{Verdict, accepted, needs, declined, andThen}
 use Rattle.bits.specs.Field.{field}
-use Rattle.bits.specs.Number.{Moves}
+use Rattle.bits.specs.Number.{Moves, steppedTo}
 use Rattle.bits.proofs.NumberLaws.{ran-moves, moves-ran}
 use Rattle.bits.proofs.VerdictLaws.{clash, tested-value, then-value}
 use Rattle.bits.specs.Run.{RunSpells, Found, complete, shift, nextOf, inFront, readRun}
+use Rattle.bits.specs.Internal.{FieldsAt, MovedBy}
+use Rattle.bits.specs.declared.fields.runs.Fields.{Fields}
+use Rattle.bits.specs.declared.fields.runs.Five.{Five}
+use Rattle.bits.specs.declared.fields.runs.Moved.{Moved}
 
 -- ---- fields that are to be complete
 
@@ -150,3 +154,23 @@ module _ (s : List ℕ) (w limit : ℕ) where
       let y : p + w + length xs * w ≡ p + suc (length xs) * w = omega arith in
       run-on s w limit (length xs) p prior (f .0) x (moves-ran (getD prior 0 0) (field s p w) limit x (f .2) (f .1))
       ∙ rw (spells-run (p + w) (shift prior x) xs (shift-some prior x) (spells-tail s w limit p prior o x xs r)) (ap (λ (k : ℕ). accepted (x ∷ xs, k)) y)
+
+-- ---- five fields at once
+
+-- the five fields from bit p on take the numbers v to the numbers r
+pub record FiveTo (s : List ℕ) (w p : ℕ) (v : Five) (r : Moved) : Type 0 where
+  pub first : r .a ≡ steppedTo (v .a) (field s p w)
+  pub second : r .b ≡ steppedTo (v .b) (field s (p + w) w)
+  pub third : r .c ≡ steppedTo (v .c) (field s (p + w + w) w)
+  pub fourth : r .d ≡ steppedTo (v .d) (field s (p + w + w + w) w)
+  pub fifth : r .e ≡ steppedTo (v .e) (field s (p + w + w + w + w) w)
+
+pub five-to : {s : List ℕ} {w p : ℕ} {f : Fields} {v : Five} {r : Moved} → FieldsAt s w p f → MovedBy f v r → FiveTo s w p v r
+five-to {v = v} q m =
+    record {
+      first = m .first ∙ ap (steppedTo (v .a)) (q .first);
+      second = m .second ∙ ap (steppedTo (v .b)) (q .second);
+      third = m .third ∙ ap (steppedTo (v .c)) (q .third);
+      fourth = m .fourth ∙ ap (steppedTo (v .d)) (q .fourth);
+      fifth = m .fifth ∙ ap (steppedTo (v .e)) (q .fifth);
+    }

@@ -10,11 +10,11 @@ use Rattle.bits.specs.Verdict.{accepted}
 use Rattle.bits.specs.Field.{field}
 use Rattle.bits.specs.Number.{steppedTo}
 use Rattle.bits.specs.Run.{shift, readRun, lastOf, low16, summed}
-use Rattle.bits.specs.Internal.{five, MovedBy, fiveLow}
+use Rattle.bits.specs.Internal.{five, fiveLow}
 use Rattle.bits.specs.declared.fields.runs.Five.{Five}
 use Rattle.bits.specs.declared.fields.runs.Moved.{Moved}
 use Rattle.bits.proofs.NumberLaws.{ran-moves, moves-stepped}
-use Rattle.bits.proofs.RunLaws.{run-first}
+use Rattle.bits.proofs.RunLaws.{run-first, FiveTo}
 use Rattle.bits.proofs.SetsLaws.{sets-after, sets-whole}
 
 module _ (s : List ℕ) (w : ℕ) where
@@ -46,7 +46,7 @@ module _ (s : List ℕ) (w : ℕ) where
       ∙ rw (z, y)
 
   -- five fields of five running numbers
-  pub summed-five : (n p : ℕ) (v : Five) (r : Moved) → 5 ≤ n → MovedBy s w p v r
+  pub summed-five : (n p : ℕ) (v : Five) (r : Moved) → 5 ≤ n → FiveTo s w p v r
       → summed s w n p (five v) ≡ fiveLow r ++ summed s w (n - 5) (p + 5 * w) (fiveLow r)
   summed-five n p v r o k =
       let a = low16 (r .a) in
@@ -64,7 +64,7 @@ module _ (s : List ℕ) (w : ℕ) where
       ∙ rw (z, y)))))
 
   -- and with the numbers that were kept
-  pub summed-kept : (n p : ℕ) (v : Five) (r : Moved) (u : Five) → 5 ≤ n → MovedBy s w p v r → five u ≡ fiveLow r
+  pub summed-kept : (n p : ℕ) (v : Five) (r : Moved) (u : Five) → 5 ≤ n → FiveTo s w p v r → five u ≡ fiveLow r
       → summed s w n p (five v) ≡ five u ++ summed s w (n - 5) (p + 5 * w) (five u)
   summed-kept n p v r u o k e = summed-five n p v r o k ∙ ap (λ (l : List ℕ). l ++ summed s w (n - 5) (p + 5 * w) l) (sym e)
 

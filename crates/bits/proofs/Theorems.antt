@@ -1,25 +1,27 @@
--- The theorems of specs/Laws.antt. Assumes nothing.
-use Prim.Native.Nat.{ℕ, _+_, _*_, _%_, _^_, _≤_, _<_}
-use mathlib.Core.Path.{_≡_, sym, ap, _∙_}
+-- The theorems of specs/Laws.antt and specs/Refusals.antt. Assumes nothing.
+use Prim.Native.Nat.{ℕ, _+_, _-_, _*_, _%_, _^_, _≤_, _<_}
+use mathlib.Core.Path.{_≡_, refl, sym, ap, _∙_}
 use mathlib.Core.Logic.{_⊎_, inl, inr}
 use mathlib.Core.List.{List}
 use native.Mathlib.Omega.{arith}
 use native.Mathlib.Nat.{mod-lt}
 use lib.ListN.{length, getD}
 use lib.Pow.{pow-pos}
-use Rattle.bits.specs.Field.{field}
+use Rattle.bits.specs.Field.{field, room}
 use Rattle.bits.specs.Put.{free, bitsPut, fieldPut}
 use Rattle.bits.specs.Laws.{FieldLaws, ReadLaws, RunningLaws, RunLaws, WidthLaws, FieldPutLaws}
 use Rattle.bits.proofs.VerdictLaws.{le-or-lt}
 use Rattle.bits.proofs.FieldLaws.{field-lt, field-split, field-bytes, field-window, field-append, field-append-right, field-inj}
 use Rattle.bits.specs.Verdict.{accepted}
-use Rattle.bits.specs.Number.{Moves, steppedTo}
-use Rattle.bits.specs.Run.{RunSpells, readRun}
+use Rattle.bits.specs.Number.{Moves, steppedTo, widthOf}
+use Rattle.bits.specs.Run.{RunSpells, zeros, readRun}
+use Rattle.bits.specs.Refusals.{Refusals}
 use Rattle.bits.proofs.ReadLaws.{one-by-bits, two-by-bits, field-held}
 use Rattle.bits.proofs.NumberLaws.{moves-meaning, meaning-moves, ran-moves, moves-ran, stepped-in, moves-stepped, width-enough, width-least}
 use Rattle.bits.proofs.RunLaws.{run-spells, spells-run}
 use Rattle.bits.proofs.SummedLaws.{read-summed}
 use Rattle.bits.proofs.PutLaws.{field-put-yes, field-put-no, field-bitsPut, before-bitsPut, free-bitsPut, after-bitsPut, length-bitsPut, field-word-put}
+use Rattle.bits.proofs.RefusalLaws.{mapped-refuses, within-refuses, limited-refuses, within-asks, next-refuses, run-refuses, header-refuses}
 
 pub field-laws : FieldLaws
 field-laws =
@@ -86,4 +88,23 @@ field-put-laws =
       after = λ s p w x k h l. ap (λ (t : List ℕ). getD t k 0) (is s p w x h) ∙ after-bitsPut s p w (x % 2 ^ w) h k (omega arith);
       same-length = length-put;
       word-back = field-word-put;
+    }
+
+-- ---- which refusals each call can give, of specs/Refusals.antt
+
+pub refusals : Refusals
+refusals =
+    record {
+      seek = λ s to. within-refuses to (length s) to 3 refl;
+      skip = λ s p n. within-refuses (p + n) (length s) (p + n) 3 refl;
+      u8 = λ s p. within-refuses (p + 1) (length s) _ 3 refl;
+      u32 = λ s p. within-refuses (p + 4) (length s) _ 3 refl;
+      box-header = header-refuses refl;
+      read = λ s p w. within-refuses w (room s - p) _ 3 refl;
+      read-two = λ s p w. within-refuses (2 * w) (room s - p) _ 3 refl;
+      run-on = next-refuses refl;
+      check-run = λ s limit count p. limited-refuses s refl (mapped-refuses _ (run-refuses refl refl s (widthOf limit) limit count p (zeros 1)));
+      check-fives = λ s limit count p. limited-refuses s refl (mapped-refuses _ (run-refuses refl refl s (widthOf limit) limit (5 * count) p (zeros 5)));
+      put-word = λ s p. within-asks (p + 4) (length s) tt _;
+      put-field = λ s p w. within-asks (p + w) (8 * length s) tt _;
     }

@@ -8,6 +8,7 @@ use lib.ListN.{length}
 use Rattle.bits.specs.Field.{field}
 use Rattle.bits.specs.Number.{steppedTo}
 use Rattle.bits.specs.Run.{low16}
+use Rattle.bits.specs.declared.fields.runs.Fields.{Fields}
 use Rattle.bits.specs.declared.fields.runs.Five.{Five}
 use Rattle.bits.specs.declared.fields.runs.Moved.{Moved}
 
@@ -21,13 +22,21 @@ pub record Inside (s : List ℕ) (p n : ℕ) : Type 0 where
 abbrev pub five : Five → List ℕ
 five v = v .a ∷ v .b ∷ v .c ∷ v .d ∷ v .e ∷ []
 
--- the five fields from bit p on take the numbers v to the numbers r
-pub record MovedBy (s : List ℕ) (w p : ℕ) (v : Five) (r : Moved) : Type 0 where
-  pub first : r .a ≡ steppedTo (v .a) (field s p w)
-  pub second : r .b ≡ steppedTo (v .b) (field s (p + w) w)
-  pub third : r .c ≡ steppedTo (v .c) (field s (p + w + w) w)
-  pub fourth : r .d ≡ steppedTo (v .d) (field s (p + w + w + w) w)
-  pub fifth : r .e ≡ steppedTo (v .e) (field s (p + w + w + w + w) w)
+-- the five fields of width w from bit p on
+pub record FieldsAt (s : List ℕ) (w p : ℕ) (f : Fields) : Type 0 where
+  pub first : f .a ≡ field s p w
+  pub second : f .b ≡ field s (p + w) w
+  pub third : f .c ≡ field s (p + w + w) w
+  pub fourth : f .d ≡ field s (p + w + w + w) w
+  pub fifth : f .e ≡ field s (p + w + w + w + w) w
+
+-- the fields f take the numbers v to the numbers r
+pub record MovedBy (f : Fields) (v : Five) (r : Moved) : Type 0 where
+  pub first : r .a ≡ steppedTo (v .a) (f .a)
+  pub second : r .b ≡ steppedTo (v .b) (f .b)
+  pub third : r .c ≡ steppedTo (v .c) (f .c)
+  pub fourth : r .d ≡ steppedTo (v .d) (f .d)
+  pub fifth : r .e ≡ steppedTo (v .e) (f .e)
 
 -- all five are below the limit
 abbrev pub allBelow : ℕ → Moved → Bool

@@ -16,7 +16,7 @@ ghost use Rattle.bits.specs.Verdict.{limited};
 ghost use Rattle.bits.specs.Number.{widthOf};
 ghost use Rattle.bits.specs.Run.{zeros, readRun, judged, checkSays, low16, summed, runThere, runFilled};
 ghost use Rattle.bits.specs.Run.{fivesThere, fivesFilled};
-ghost use Rattle.bits.specs.Internal.{Inside, five, MovedBy, allBelow, fiveLow};
+ghost use Rattle.bits.specs.Internal.{Inside, five, FieldsAt, MovedBy, allBelow, fiveLow};
 
 // Where the first field stands, what the running numbers stay below, and how many fields there are, or how many fives
 // of fields.
@@ -69,18 +69,18 @@ fn check_each(s: &[u8], run: Run, width: u32, from: u16) -> RunCheck
     RunCheck::Good
 }
 
-// A run whose fields are all there, two at a time.
-fn check_pairs(s: &[u8], run: Run, width: u32) -> RunCheck
+// A run of whole pairs of fields, which are all there, from any running number on.
+fn check_pairs(s: &[u8], run: Run, width: u32, from: u16) -> RunCheck
     requires { ⌜ Inside (now s) (run .bit) (run .count * width) ⌝ }
-    requires { ⌜ width ≤ 16 ⌝ }
+    requires { ⌜ (width ≤ 16) × (run .count % 2 ≡ 0) ⌝ }
     ensures answer { λ r. ⌜ checkSays r
-        ≡ judged (readRun (now (s .entry)) width (run .limit) (run .count) (run .bit) (zeros 1)) ⌝ }
+        ≡ judged (readRun (now (s .entry)) width (run .limit) (run .count) (run .bit) (from ∷ [])) ⌝ }
 {
     let limit = run.limit as u64;
     let mut bit = run.bit;
-    let mut last: u16 = 0;
+    let mut last = from;
     let mut left = run.count;
-    while 2 <= left {
+    while 0 < left {
         let f = two_inside(s, bit, width);
         let a = stepped(last as u32, f.a);
         if limit <= a {
@@ -94,12 +94,29 @@ fn check_pairs(s: &[u8], run: Run, width: u32) -> RunCheck
         bit += 2 * (width as usize);
         left -= 2;
     }
+    RunCheck::Good
+}
+
+// A run whose fields are all there: of an odd number the first alone, then two at a time.
+fn check_inside(s: &[u8], run: Run, width: u32) -> RunCheck
+    requires { ⌜ Inside (now s) (run .bit) (run .count * width) ⌝ }
+    requires { ⌜ width ≤ 16 ⌝ }
+    ensures answer { λ r. ⌜ checkSays r
+        ≡ judged (readRun (now (s .entry)) width (run .limit) (run .count) (run .bit) (zeros 1)) ⌝ }
+{
+    if run.count % 2 == 0 {
+        return check_pairs(s, run, width, 0);
+    }
+    let first = stepped(0, one_inside(s, run.bit, width));
+    if run.limit as u64 <= first {
+        return RunCheck::Declined(8);
+    }
     let rest = Run {
-        bit,
+        bit: run.bit + width as usize,
         limit: run.limit,
-        count: left,
+        count: run.count - 1,
     };
-    check_each(s, rest, width, last)
+    check_pairs(s, rest, width, first as u16)
 }
 
 // Whether so many fields from a bit on lie inside s, where two of them share a window.
@@ -139,7 +156,7 @@ pub fn check_run(s: &[u8], run: Run) -> RunCheck
     }
     let width = bit_width(run.limit as u32);
     if run_there(s, run.bit, width, run.count as usize) {
-        return check_pairs(s, run, width);
+        return check_inside(s, run, width);
     }
     if run.count == 0 {
         return RunCheck::Good;
@@ -170,22 +187,43 @@ struct Moved {
     e: u64,
 }
 
-// The next five fields, which are there, and where they take five running numbers.
-fn move_five(s: &[u8], bit: usize, width: u32, v: Five) -> Moved
+// Five neighbouring fields.
+struct Fields {
+    a: u32,
+    b: u32,
+    c: u32,
+    d: u32,
+    e: u32,
+}
+
+// Five fields that are known to be there: two windows of two, and one of one.
+fn five_inside(s: &[u8], bit: usize, width: u32) -> Fields
     requires { ⌜ Inside (now s) bit (5 * width) ⌝ }
     requires { ⌜ width ≤ 16 ⌝ }
-    ensures { λ r. ⌜ MovedBy (now (s .entry)) width bit v r ⌝ }
+    ensures { λ r. ⌜ FieldsAt (now (s .entry)) width bit r ⌝ }
 {
     let step = 2 * (width as usize);
     let f = two_inside(s, bit, width);
     let g = two_inside(s, bit + step, width);
-    let h = one_inside(s, bit + 2 * step, width);
+    Fields {
+        a: f.a,
+        b: f.b,
+        c: g.a,
+        d: g.b,
+        e: one_inside(s, bit + 2 * step, width),
+    }
+}
+
+// Where five fields take five running numbers.
+fn move_five(v: Five, f: Fields) -> Moved
+    ensures { λ r. ⌜ MovedBy f v r ⌝ }
+{
     Moved {
         a: stepped(v.a as u32, f.a),
         b: stepped(v.b as u32, f.b),
-        c: stepped(v.c as u32, g.a),
-        d: stepped(v.d as u32, g.b),
-        e: stepped(v.e as u32, h),
+        c: stepped(v.c as u32, f.c),
+        d: stepped(v.d as u32, f.d),
+        e: stepped(v.e as u32, f.e),
     }
 }
 
@@ -258,7 +296,7 @@ fn check_all_fives(s: &[u8], run: Run, width: u32) -> RunCheck
     };
     let mut left = run.count;
     while 0 < left {
-        let next = move_five(s, bit, width, v);
+        let next = move_five(v, five_inside(s, bit, width));
         if !all_below(next, limit) {
             return RunCheck::Declined(8);
         }
@@ -313,8 +351,9 @@ fn fill_pairs(s: &[u8], start: usize, width: u32, from: u16, out: &mut [u16])
     let n = out.len();
     let mut bit = start;
     let mut last = from;
+    let even = n - n % 2;
     let mut at: usize = 0;
-    while 2 <= n - at {
+    while at < even {
         let f = two_inside(s, bit, width);
         let a = low_half(stepped(last as u32, f.a));
         last = low_half(stepped(a as u32, f.b));
@@ -369,7 +408,7 @@ fn fill_all_fives(s: &[u8], start: usize, width: u32, out: &mut [u16])
     };
     let mut at: usize = 0;
     while at < n {
-        v = low_five(move_five(s, bit, width, v));
+        v = low_five(move_five(v, five_inside(s, bit, width)));
         put_five(out, at, v);
         bit += 5 * (width as usize);
         at += 5;

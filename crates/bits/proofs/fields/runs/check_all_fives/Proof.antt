@@ -5,8 +5,8 @@ use native.Mathlib.Omega.{arith}
 use borrow.Author.Tests.{not-true, not-false}
 use Rattle.bits.specs.Run.{zeros, readRun, judged}
 use Rattle.bits.specs.Internal.{Inside, five}
+use Rattle.bits.proofs.RunLaws.{five-to}
 use Rattle.bits.proofs.JudgedLaws.{group-inside, field-none, five-on, five-out}
-use borrow.Author.Needs.{needs}
 use Rattle.bits.proofs.fields.runs.check_all_fives.Statement.{statement}
 use Rattle.bits.proofs.fields.runs.check_all_fives.Tie as tie
 
@@ -36,30 +36,34 @@ cast-limit c = omega arith
 loop-holds : tie.Need-loop-holds Inv-loop μ-loop
 loop-holds c = (refl, c .before .before .pre .0)
 
+five-inside-requires : tie.Need-five-inside-requires Inv-loop μ-loop
+five-inside-requires c κs = (next-five c .0, c .before .before .before .before .pre .1)
+
 move-five-requires : tie.Need-move-five-requires Inv-loop μ-loop
-move-five-requires c κs = (next-five c .0, c .before .before .before .before .pre .1)
+move-five-requires c κs = tt
 
 all-below-requires : tie.Need-all-below-requires Inv-loop μ-loop
-all-below-requires c κs = search needs
+all-below-requires c κs = tt
 
 returns : tie.Need-returns Inv-loop μ-loop
 returns c =
     let m = c .before .before in
-    let e = m .before .before .before .before .before in
-    let l = m .before .before .loop in
-    let f = next-five (m .before) in
+    let i = m .before .before in
+    let e = i .before .before .before .before in
+    let l = i .before .loop in
+    let f = next-five i in
     sym
     (l .inv .0
-    ∙ five-out (e .args .s .now) (e .args .width) (e .args .run .limit) (5 * l .left) (l .bit) (l .v) (m .move-five .result) (omega (arith, e .pre .1)) (omega arith) (omega arith) (f .0 .whole) (m .move-five .ensures) (sym (c .before .all-below .ensures) ∙ not-true _ (c .if1 .taken)))
+    ∙ five-out (e .args .s .now) (e .args .width) (e .args .run .limit) (5 * l .left) (l .bit) (l .v) (m .move-five .result) (omega (arith, e .pre .1)) (omega arith) (omega arith) (f .0 .whole) (five-to (m .before .five-inside .ensures) (m .move-five .ensures)) (sym (c .before .all-below .ensures) ∙ not-true _ (c .if1 .taken)))
 
 low-five-requires : tie.Need-low-five-requires Inv-loop μ-loop
-low-five-requires c κs = search needs
+low-five-requires c κs = tt
 
 mul-bit : tie.Need-mul-bit Inv-loop μ-loop
 mul-bit c = omega arith
 
 add-bit : tie.Need-add-bit Inv-loop μ-loop
-add-bit c = let i = c .before .before .before .before in omega (arith, next-five i .0 .whole, next-five i .0 .short)
+add-bit c = let i = c .before .before .before .before .before in omega (arith, next-five i .0 .whole, next-five i .0 .short)
 
 sub-left : tie.Need-sub-left Inv-loop μ-loop
 sub-left c = omega arith
@@ -71,13 +75,14 @@ loop-again : tie.Need-loop-again Inv-loop μ-loop
 loop-again c =
     let b = c .before .before in
     let m = b .before in
-    let e = m .before .before .before .before .before in
-    let l = m .before .before .loop in
-    let k = m .before .before .before .struct-known .given in
-    let f = next-five (m .before) in
+    let i = m .before .before in
+    let e = i .before .before .before .before in
+    let l = i .before .loop in
+    let k = i .before .before .struct-known .given in
+    let f = next-five i in
     let z : 5 * (l .left - 1) ≡ 5 * l .left - 5 = omega arith in (
       l .inv .0
-          ∙ five-on (e .args .s .now) (e .args .width) (e .args .run .limit) (5 * l .left) (l .bit) (l .v) (m .move-five .result) (omega (arith, e .pre .1)) (omega arith) (omega arith) (f .0 .whole) (m .move-five .ensures) (sym (b .all-below .ensures) ∙ not-false _ (c .before .if1 .left))
+          ∙ five-on (e .args .s .now) (e .args .width) (e .args .run .limit) (5 * l .left) (l .bit) (l .v) (m .move-five .result) (omega (arith, e .pre .1)) (omega arith) (omega arith) (f .0 .whole) (five-to (m .before .five-inside .ensures) (m .move-five .ensures)) (sym (b .all-below .ensures) ∙ not-false _ (c .before .if1 .left))
           ∙ rw (z, c .low-five .ensures),
       f .1,
     )
@@ -96,6 +101,7 @@ check-all-fives-spec =
     μ-loop
     cast-limit
     loop-holds
+    five-inside-requires
     move-five-requires
     all-below-requires
     returns

@@ -26,8 +26,8 @@ cast-run-there c = search needs
 run-there-requires : tie.Need-run-there-requires
 run-there-requires c κs = search needs
 
-check-pairs-requires : tie.Need-check-pairs-requires
-check-pairs-requires c κs =
+check-inside-requires : tie.Need-check-inside-requires
+check-inside-requires c κs =
     let a = c .before .before .before .before .before .before .before .args in
     let t = there-inside (a .s .now) (a .run .bit) (c .before .before .before .bit-width .result) (a .run .count) (sym (c .before .run-there .ensures) ∙ c .if2 .taken) in
     ((t .0), t .2)
@@ -36,7 +36,7 @@ returns-2 : tie.Need-returns-2
 returns-2 c =
     let b = c .before .before .before .before in
     let a = b .before .before .before .before .args in
-    run-said (a .s .now) (widthOf (a .run .limit)) (a .run .limit) (a .run .count) (a .run .bit) (zeros 1) (omega arith) _ _ (b .bit-width .ensures) (c .check-pairs .ensures)
+    run-said (a .s .now) (widthOf (a .run .limit)) (a .run .limit) (a .run .count) (a .run .bit) (zeros 1) (omega arith) _ _ (b .bit-width .ensures) (c .check-inside .ensures)
 
 returns-3 : tie.Need-returns-3
 returns-3 c = let a = c .before .before .before .before .before .before .before .before .before .args in run-empty (a .s .now) (widthOf (a .run .limit)) (a .run .limit) (a .run .count) (a .run .bit) (zeros 1) (omega arith) (omega (arith, c .if3 .taken))
@@ -69,7 +69,7 @@ check-run-spec =
     bit-width-requires
     cast-run-there
     run-there-requires
-    check-pairs-requires
+    check-inside-requires
     returns-2
     returns-3
     mul-if4

@@ -1,7 +1,7 @@
 -- `fill_pairs` meets its contract: storing the numbers that are left gives what storing all at first gives. Assumes nothing.
 use mathlib.Core.Path.{_≡_, refl, sym, ap, _∙_}
 use mathlib.Core.List.{List, [], _∷_}
-use Prim.Native.Nat.{ℕ, _+_, _-_, _*_, _≤_}
+use Prim.Native.Nat.{ℕ, _+_, _-_, _*_, _%_, _≤_}
 use native.Mathlib.Omega.{arith}
 use lib.ListN.{length, length-set}
 use lib.Seq.{sets}
@@ -14,22 +14,28 @@ use Rattle.bits.proofs.fields.runs.fill_pairs.Statement.{statement}
 use Rattle.bits.proofs.fields.runs.fill_pairs.Tie as tie
 
 abbrev Inv-loop : tie.InvT-loop
-Inv-loop s start width from out₀ n bit₀ last₀ at₀ out bit last at =
+Inv-loop s start width from out₀ n bit₀ last₀ even at₀ out bit last at =
     Storing s width out₀ (summed s width n start (last₀ ∷ [])) out n at bit (last ∷ [])
-    × Inside s bit ((n - at) * width) × (last ≤ 65535)
+    × Inside s bit ((n - at) * width) × (last ≤ 65535) × (at % 2 ≡ 0)
 
 abbrev μ-loop : tie.MeasureT-loop
-μ-loop s start width from out₀ n bit₀ last₀ at₀ out bit last at = n - at
+μ-loop s start width from out₀ n bit₀ last₀ even at₀ out bit last at = n - at
 
 -- the next two fields, and those after them, lie inside
 next-two : (c : tie.In-loop Inv-loop μ-loop)
     → let a = c .before .before .before .before .args in
     let l = c .before .loop in
-    Inside (a .s .now) (l .bit) (2 * a .width) × Inside (a .s .now) (l .bit + 2 * a .width) ((length (a .out .now) - l .at - 2) * a .width)
+    (l .at + 2 ≤ length (a .out .now)) × Inside (a .s .now) (l .bit) (2 * a .width)
+    × Inside (a .s .now) (l .bit + 2 * a .width) ((length (a .out .now) - l .at - 2) * a .width)
 next-two c =
     let a = c .before .before .before .before .args in
     let l = c .before .loop in
-    group-inside 2 (length (a .out .now) - l .at) (a .width) (l .bit) (omega arith) (l .inv .1)
+    let h : l .at + 2 ≤ length (a .out .now) = omega (arith, c .loop-test .taken, l .inv .3) in
+    let g = group-inside 2 (length (a .out .now) - l .at) (a .width) (l .bit) (omega arith) (l .inv .1) in
+    (h, g .0, g .1)
+
+sub-even : tie.Need-sub-even Inv-loop μ-loop
+sub-even c = omega arith
 
 loop-holds : tie.Need-loop-holds Inv-loop μ-loop
 loop-holds c =
@@ -37,13 +43,10 @@ loop-holds c =
     let a = e .args in
     let n = length (a .out .now) in
     let z : n - 0 ≡ n = omega arith in
-    (stored-none (a .s .now) (a .width) (a .out .now) n (a .start) (a .from ∷ []), rw z (e .pre .0), omega arith)
-
-sub-loop : tie.Need-sub-loop Inv-loop μ-loop
-sub-loop c = omega (arith, c .loop .inv .0 .few)
+    (stored-none (a .s .now) (a .width) (a .out .now) n (a .start) (a .from ∷ []), rw z (e .pre .0), omega arith, refl)
 
 two-inside-requires : tie.Need-two-inside-requires Inv-loop μ-loop
-two-inside-requires c κs = (next-two c .0, c .before .before .before .before .pre .1 .1)
+two-inside-requires c κs = (next-two c .1, c .before .before .before .before .pre .1 .1)
 
 cast-stepped : tie.Need-cast-stepped Inv-loop μ-loop
 cast-stepped c = omega arith
@@ -64,19 +67,19 @@ low-half-requires-2 : tie.Need-low-half-requires-2 Inv-loop μ-loop
 low-half-requires-2 c κs = tt
 
 put-two-requires : tie.Need-put-two-requires Inv-loop μ-loop
-put-two-requires c κs = let i = c .before .before .before .before .before .before in omega (arith, i .before .loop .inv .0 .long, i .loop-test .taken)
+put-two-requires c κs = let i = c .before .before .before .before .before .before in omega (arith, i .before .loop .inv .0 .long, next-two i .0)
 
 mul-bit : tie.Need-mul-bit Inv-loop μ-loop
 mul-bit c = omega arith
 
 add-bit : tie.Need-add-bit Inv-loop μ-loop
-add-bit c = let i = next-two (c .before .before .before .before .before .before .before .before .before) .0 in omega (arith, i .whole, i .short)
+add-bit c = let i = next-two (c .before .before .before .before .before .before .before .before .before) .1 in omega (arith, i .whole, i .short)
 
 add-at : tie.Need-add-at Inv-loop μ-loop
-add-at c = let i = c .before .before .before .before .before .before .before .before .before in omega (arith, i .loop-test .taken, i .before .loop .inv .0 .few)
+add-at c = omega (arith, next-two (c .before .before .before .before .before .before .before .before .before) .0)
 
 loop-less : tie.Need-loop-less Inv-loop μ-loop
-loop-less c = let i = c .before .before .before .before .before .before .before .before .before in omega (arith, i .loop-test .taken)
+loop-less c = omega (arith, next-two (c .before .before .before .before .before .before .before .before .before) .0)
 
 loop-again : tie.Need-loop-again Inv-loop μ-loop
 loop-again c =
@@ -88,13 +91,15 @@ loop-again c =
     let y = c .before .before .before .before .low-half2 in
     let u = c .before .before .put-two in
     let n = next-two i in
-    let z : length (a .out .now) - (l .at + 2) ≡ length (a .out .now) - l .at - 2 = omega arith in
+    let z : length (a .out .now) - (l .at + 2) ≡ length (a .out .now) - l .at - 2 = omega (arith, n .0) in
+    let k : 2 ≤ length (a .out .now) - l .at = omega (arith, n .0) in
     let ex = x .ensures ∙ ap low16 (c .before .before .before .before .before .before .before .stepped .ensures ∙ ap (steppedTo (l .last)) (f .ensures .0)) in
     let ey = y .ensures ∙ ap low16 (c .before .before .before .before .before .stepped2 .ensures ∙ ap (steppedTo (x .result)) (f .ensures .1)) in (
-      stored-on (l .inv .0) (x .result ∷ y .result ∷ []) (u .last .0) (y .result ∷ []) 2 (l .bit + 2 * a .width) refl (omega (arith, i .loop-test .taken))
-          (summed-two (a .s .now) (a .width) (length (a .out .now) - l .at) (l .bit) (l .last) (x .result) (y .result) (i .loop-test .taken) ex ey) (u .ensures) (u .kept .0),
-      rw z (n .1),
+      stored-on (l .inv .0) (x .result ∷ y .result ∷ []) (u .last .0) (y .result ∷ []) 2 (l .bit + 2 * a .width) refl (n .0)
+          (summed-two (a .s .now) (a .width) (length (a .out .now) - l .at) (l .bit) (l .last) (x .result) (y .result) k ex ey) (u .ensures) (u .kept .0),
+      rw z (n .2),
       omega arith,
+      omega (arith, l .inv .3),
     )
 
 cast-stepped-3 : tie.Need-cast-stepped-3 Inv-loop μ-loop
@@ -155,8 +160,8 @@ fill-pairs-spec =
     (tie.spec
     Inv-loop
     μ-loop
+    sub-even
     loop-holds
-    sub-loop
     two-inside-requires
     cast-stepped
     stepped-requires

@@ -1,0 +1,75 @@
+-- Which refusals a verdict can be: a law for each way in which verdicts are put together, and for what the calls read. Assumes nothing.
+use Prim.Native.Nat.{ℕ, zero, suc, _+_, _-_, _*_, _/_, _%_}
+use mathlib.Core.Path.{_≡_}
+use mathlib.Core.Bool.{Bool, true, false, cond}
+use mathlib.Core.List.{List, [], _∷_}
+use lib.Dec.{leb, eqb}
+use lib.ListN.{length, getD}
+use Rattle.bits.specs.Verdict.{Verdict, accepted, needs, declined, within, limited, andThen, mapped}
+use Rattle.bits.specs.Field.{field}
+use Rattle.bits.specs.Number.{ranOn}
+use Rattle.bits.specs.Header.{listEnd, box, sizedAt, headerAt}
+use Rattle.bits.specs.Run.{complete, shift, readRun}
+use Rattle.bits.specs.Refusals.{among, Refuses, gives, refuses, RefusesOr12, listed, asks}
+
+module _ {ks : List ℕ} where
+  -- ---- the ways in which verdicts are put together
+
+  pub then-refuses : {A B : Type 0} {v : Verdict A} {f : A → Verdict B} → Refuses ks v → ((a : A) → Refuses ks (f a)) → Refuses ks (andThen v f)
+  then-refuses (gives a) h = h a
+  then-refuses (refuses k e) h = refuses k e
+
+  pub mapped-refuses : {A B : Type 0} {v : Verdict A} (f : A → B) → Refuses ks v → Refuses ks (mapped f v)
+  mapped-refuses f r = then-refuses r (λ x. gives (f x))
+
+  pub cond-refuses : {A : Type 0} {u v : Verdict A} (b : Bool) → Refuses ks u → Refuses ks v → Refuses ks (cond b u v)
+  cond-refuses true r q = r
+  cond-refuses false r q = q
+
+  pub within-refuses : {A : Type 0} (m n : ℕ) (a : A) (k : ℕ) → among k ks ≡ true → Refuses ks (within m n a (declined k))
+  unfolding within
+  within-refuses m n a k e = cond-refuses (leb m n) (gives a) (refuses k e)
+
+  pub limited-refuses : {A : Type 0} {v : Verdict A} (s : List ℕ) → among 2 ks ≡ true → Refuses ks v → Refuses ks (limited s v)
+  unfolding limited
+  limited-refuses s e r = cond-refuses (leb (length s) 67108864) r (refuses 2 e)
+
+  -- room, or the length that is needed
+  pub within-asks : {A : Type 0} (m n : ℕ) (a : A) (l : List ℕ) → RefusesOr12 ks (within m n a (needs l))
+  unfolding within
+  within-asks m n a l = go (leb m n)
+    where
+      go : (b : Bool) → RefusesOr12 ks (cond b (accepted a) (needs l))
+      go true = listed (gives a)
+      go false = asks l
+
+  -- ---- what is read
+
+  pub complete-refuses : {A : Type 0} {v : Verdict A} (s : List ℕ) (e : ℕ) → among 3 ks ≡ true → Refuses ks v → Refuses ks (complete s e v)
+  unfolding complete
+  complete-refuses s e three r = cond-refuses (leb e (8 * length s)) r (refuses 3 three)
+
+  pub next-refuses : among 8 ks ≡ true → (limit last f : ℕ) → Refuses ks (ranOn limit last f)
+  unfolding ranOn
+  next-refuses eight limit last f =
+      let below : (n : ℕ) → Refuses ks (within (n + 1) limit n (declined 8)) = λ n. within-refuses (n + 1) limit n 8 eight in
+      cond-refuses (eqb (f % 2) 0) (below (last + f / 2))
+      (cond-refuses (leb ((f + 1) / 2) last) (below (last - (f + 1) / 2)) (refuses 8 eight))
+
+  pub run-refuses : among 3 ks ≡ true → among 8 ks ≡ true → (s : List ℕ) (w limit n p : ℕ) (prior : List ℕ) → Refuses ks (readRun s w limit n p prior)
+  unfolding readRun
+  run-refuses three eight s w limit zero p prior = gives ([], p)
+  run-refuses three eight s w limit (suc n) p prior =
+      complete-refuses s (p + w) three
+      (then-refuses (next-refuses eight limit (getD prior 0 0) (field s p w)) (λ next.
+      mapped-refuses (λ x. (next ∷ x .0, x .1)) (run-refuses three eight s w limit n (p + w) (shift prior next))))
+
+  pub header-refuses : among 6 ks ≡ true → (s : List ℕ) (p : ℕ) → Refuses ks (headerAt s p)
+  unfolding headerAt sizedAt
+  header-refuses six s p =
+      let size = field s (8 * p) 32 in
+      cond-refuses (leb (p + 8) (length s))
+      (cond-refuses (leb 8 size)
+      (within-refuses (p + size) (length s) (box (field s (8 * (p + 4)) 32) (p + 8) (p + size)) 6 six)
+      (refuses 6 six))
+      (gives listEnd)
