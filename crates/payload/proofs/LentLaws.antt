@@ -11,6 +11,7 @@ use lib.ListN.{length, drop}
 use lib.Seq.{sets, sets-eq}
 use borrow.Author.Tests.{le-leb, lt-leb, leb-true}
 use Rattle.bits.specs.Verdict.{Verdict, accepted, needs, declined, mapped}
+use Rattle.bits.specs.Refusals.{Refuses, gives, refuses, RefusesOr12, listed, asks}
 use Rattle.bits.proofs.VerdictLaws.{clash}
 use Rattle.payload.specs.Lent.{Plan, allFit, _onto_, allOnto, answerFor, buffersAfter, inItems}
 
@@ -203,3 +204,15 @@ module _ (u : ℕ) (v : Verdict (List ℕ)) (out : List ℕ) where
       → buffersAfter (inItems u v) (out ∷ []) ≡ (l onto out) ∷ []
   told-onto l e h =
       fit-after (inItems u v) (out ∷ []) _ (ap (inItems u) e) (simp (le-leb (length l) (length out) h))
+
+-- ---- a plan's refusals are the call's, and 12 beside them
+
+pub answer-refuses : {A : Type 0} {ks : List ℕ} {v : Verdict (Plan A)} (buffers : List (List ℕ)) → Refuses ks v
+    → RefusesOr12 ks (answerFor v buffers)
+unfolding answerFor
+answer-refuses {ks = ks} buffers (gives p) = go (allFit (p .lists) buffers)
+  where
+    go : (b : Bool) → RefusesOr12 ks (cond b (accepted (p .answer)) (needs (map length (p .lists))))
+    go true = listed (gives (p .answer))
+    go false = asks (map length (p .lists))
+answer-refuses buffers (refuses k e) = listed (refuses k e)

@@ -1,20 +1,20 @@
 -- Which refusals each call can give: a law for each way in which verdicts are put together. Assumes nothing.
-use Prim.Native.Nat.{ℕ, zero, suc, _+_, _-_, _*_, _/_, _%_, _^_}
+use Prim.Native.Nat.{ℕ, zero, suc, _+_, _-_, _*_, _/_, _^_}
 use mathlib.Core.Path.{_≡_, refl}
-use mathlib.Core.Bool.{Bool, true, false, _&&_, cond}
-use mathlib.Core.List.{List, [], _∷_, map}
+use mathlib.Core.Bool.{true, _&&_}
+use mathlib.Core.List.{List, [], _∷_}
 use lib.Dec.{leb, eqb}
-use lib.ListN.{length, getD}
+use lib.ListN.{length}
 use lib.Ieee.{Float}
 use lib.Ieee.Scale.{finite}
-use Rattle.bits.specs.Verdict.{Verdict, accepted, needs, declined, within, limited, andThen, mapped}
+use Rattle.bits.specs.Verdict.{Verdict, needs}
 use Rattle.bits.specs.Field.{field}
-use Rattle.bits.specs.Number.{ranOn, widthOf}
+use Rattle.bits.specs.Number.{widthOf}
 use Rattle.bits.specs.Read.{numberAt}
-use Rattle.bits.specs.Header.{Item, listEnd, box, sizedAt, headerAt}
-use Rattle.bits.specs.Run.{zeros, Found, complete, shift, readRun}
+use Rattle.bits.specs.Header.{Item, listEnd, box}
+use Rattle.bits.specs.Run.{zeros, Found, complete}
 use Rattle.bits.proofs.VerdictLaws.{clash}
-use Rattle.payload.specs.Lent.{Plan, allFit, inItems, answerFor}
+use Rattle.payload.specs.Lent.{inItems, answerFor}
 use Rattle.payload.specs.Crop.{full, usable}
 use Rattle.payload.specs.Payload.{fullBox}
 use Rattle.payload.specs.Equi.{cropOf, fourWords, equiFields, equiUsable, equiRead, withCrop, equiWritten}
@@ -29,44 +29,15 @@ use Rattle.payload.specs.MeshRead.{afterPoolCount, readMesh, readItem, r
 use Rattle.payload.specs.Meshes.{listSize, drawnMeshes, recordedMeshes}
 use Rattle.payload.specs.Tables.{tableLengths, bodyRead, tablesOf}
 use Rattle.payload.specs.MeshWrite.{isMesh, meshWritten}
-use Rattle.payload.specs.Refusals.{among, Refuses, gives, refuses, RefusesOr12, listed, asks, Refusals}
+use Rattle.bits.specs.Refusals.{among, Refuses, gives, refuses, RefusesOr12}
+use Rattle.bits.proofs.RefusalLaws.{then-refuses, mapped-refuses, cond-refuses, within-refuses, limited-refuses, complete-refuses, run-refuses, header-refuses}
+use Rattle.payload.specs.Refusals.{Refusals}
+use Rattle.payload.proofs.LentLaws.{answer-refuses}
 use Rattle.payload.specs.declared.crop.Bounds.{Bounds}
 
 -- ---- the ways in which verdicts are put together
 
 module _ {ks : List ℕ} where
-  then-refuses : {A B : Type 0} {v : Verdict A} {f : A → Verdict B} → Refuses ks v → ((a : A) → Refuses ks (f a))
-      → Refuses ks (andThen v f)
-  then-refuses (gives a) h = h a
-  then-refuses (refuses k e) h = refuses k e
-
-  mapped-refuses : {A B : Type 0} {v : Verdict A} (f : A → B) → Refuses ks v → Refuses ks (mapped f v)
-  mapped-refuses f r = then-refuses r (λ x. gives (f x))
-
-  cond-refuses : {A : Type 0} {u v : Verdict A} (b : Bool) → Refuses ks u → Refuses ks v → Refuses ks (cond b u v)
-  cond-refuses true r q = r
-  cond-refuses false r q = q
-
-  within-refuses : {A : Type 0} (m n : ℕ) (a : A) (k : ℕ) → among k ks ≡ true
-      → Refuses ks (within m n a (declined k))
-  unfolding within
-  within-refuses m n a k e = cond-refuses (leb m n) (gives a) (refuses k e)
-
-  limited-refuses : {A : Type 0} {v : Verdict A} (s : List ℕ) → among 2 ks ≡ true → Refuses ks v
-      → Refuses ks (limited s v)
-  unfolding limited
-  limited-refuses s e r = cond-refuses (leb (length s) 67108864) r (refuses 2 e)
-
-  answer-refuses : {A : Type 0} {v : Verdict (Plan A)} (buffers : List (List ℕ)) → Refuses ks v
-      → RefusesOr12 ks (answerFor v buffers)
-  unfolding answerFor
-  answer-refuses buffers (gives p) = go (allFit (p .lists) buffers)
-    where
-      go : (b : Bool) → RefusesOr12 ks (cond b (accepted (p .answer)) (needs (map length (p .lists))))
-      go true = listed (gives (p .answer))
-      go false = asks (map length (p .lists))
-  answer-refuses buffers (refuses k e) = listed (refuses k e)
-
   -- a list for one buffer
   items-refuses : {v : Verdict (List ℕ)} (u : ℕ) (buffers : List (List ℕ)) → Refuses ks v
       → RefusesOr12 ks (answerFor (inItems u v) buffers)
@@ -88,9 +59,8 @@ module _ {ks : List ℕ} where
     number-refuses : (n : ℕ) (s : List ℕ) (p : ℕ) → Refuses ks (numberAt n s p)
     number-refuses n s p = within-refuses (p + n) (length s) (field s (8 * p) (8 * n), p + n) 3 three
 
-    complete-refuses : {A : Type 0} {v : Verdict A} (s : List ℕ) (e : ℕ) → Refuses ks v → Refuses ks (complete s e v)
-    unfolding complete
-    complete-refuses s e r = cond-refuses (leb e (8 * length s)) r (refuses 3 three)
+    whole-refuses : {A : Type 0} {v : Verdict A} (s : List ℕ) (e : ℕ) → Refuses ks v → Refuses ks (complete s e v)
+    whole-refuses s e r = complete-refuses s e three r
 
     -- ---- kinds 0 and 1
 
@@ -126,34 +96,18 @@ module _ {ks : List ℕ} where
       range-refuses low high n r =
           cond-refuses (leb low n) (cond-refuses (leb n high) r (refuses 7 seven)) (refuses 7 seven)
 
-      next-refuses : (limit last f : ℕ) → Refuses ks (ranOn limit last f)
-      unfolding ranOn
-      next-refuses limit last f =
-          let below : (n : ℕ) → Refuses ks (within (n + 1) limit n (declined 8)) =
-          λ n. within-refuses (n + 1) limit n 8 eight in
-          cond-refuses (eqb (f % 2) 0) (below (last + f / 2))
-          (cond-refuses (leb ((f + 1) / 2) last) (below (last - (f + 1) / 2)) (refuses 8 eight))
-
-      run-refuses : (s : List ℕ) (w limit n p : ℕ) (prior : List ℕ) → Refuses ks (readRun s w limit n p prior)
-      unfolding readRun
-      run-refuses s w limit zero p prior = gives ([], p)
-      run-refuses s w limit (suc n) p prior =
-          complete-refuses s (p + w)
-          (then-refuses (next-refuses limit (getD prior 0 0) (field s p w)) (λ next.
-          mapped-refuses (λ x. (next ∷ x .0, x .1)) (run-refuses s w limit n (p + w) (shift prior next))))
-
       submesh-refuses : (s : List ℕ) (w m p : ℕ) → Refuses ks (readSubmesh s w m p)
       unfolding readSubmesh
       submesh-refuses s w m p =
           let n = field s (p + 16) 32 in
-          complete-refuses s (p + 48)
-          (range-refuses 1 128000 n (then-refuses (run-refuses s w m n (p + 48) (zeros 1)) (λ x. gives _)))
+          whole-refuses s (p + 48)
+          (range-refuses 1 128000 n (then-refuses (run-refuses three eight s w m n (p + 48) (zeros 1)) (λ x. gives _)))
 
       submeshes-refuses : (s : List ℕ) (w m p : ℕ) → Refuses ks (readSubmeshes s w m p)
       unfolding readSubmeshes
       submeshes-refuses s w m p =
           let n = field s p 32 in
-          complete-refuses s (p + 32)
+          whole-refuses s (p + 32)
           (cond-refuses (eqb n 0) (refuses 7 seven)
           (many-refuses (readSubmesh s w m) (submesh-refuses s w m) n (p + 32)))
 
@@ -161,28 +115,18 @@ module _ {ks : List ℕ} where
       unfolding readMesh afterPoolCount afterVertices
       mesh-refuses s =
           let n = field s 0 32 in
-          let word : (p : ℕ) → Refuses ks (readWord s p) = λ p. complete-refuses s (p + 32) (gives _) in
-          complete-refuses s 32 (range-refuses 1 10000 n
+          let word : (p : ℕ) → Refuses ks (readWord s p) = λ p. whole-refuses s (p + 32) (gives _) in
+          whole-refuses s 32 (range-refuses 1 10000 n
           (then-refuses (many-refuses (readWord s) word n 32) (λ pool.
           let m = field s (pool .1) 32 in
-          complete-refuses s (pool .1 + 32) (range-refuses 1 32000 m
-          (then-refuses (run-refuses s (widthOf n) n (5 * m) (pool .1 + 32) (zeros 5)) (λ v.
+          whole-refuses s (pool .1 + 32) (range-refuses 1 32000 m
+          (then-refuses (run-refuses three eight s (widthOf n) n (5 * m) (pool .1 + 32) (zeros 5)) (λ v.
           then-refuses (submeshes-refuses s (widthOf m) m (aligned (v .1))) (λ l. gives _)))))))
 
       body-refuses : among 2 ks ≡ true → (s : List ℕ) → Refuses ks (bodyRead s)
       body-refuses two s = limited-refuses s two (mapped-refuses (λ x. x .0) (mesh-refuses s))
 
       module _ (six : among 6 ks ≡ true) where
-        header-refuses : (s : List ℕ) (p : ℕ) → Refuses ks (headerAt s p)
-        unfolding headerAt sizedAt
-        header-refuses s p =
-            let size = field s (8 * p) 32 in
-            cond-refuses (leb (p + 8) (length s))
-            (cond-refuses (leb 8 size)
-            (within-refuses (p + size) (length s) (box (field s (8 * (p + 4)) 32) (p + 8) (p + size)) 6 six)
-            (refuses 6 six))
-            (gives listEnd)
-
         item-refuses : (s : List ℕ) (rest : ℕ → Verdict (List Mesh)) → ((p : ℕ) → Refuses ks (rest p)) → (i : Item)
             → Refuses ks (readItem s rest i)
         item-refuses s rest h listEnd = gives []
@@ -195,7 +139,7 @@ module _ {ks : List ℕ} where
         unfolding readBoxes
         boxes-refuses s zero p = gives []
         boxes-refuses s (suc turns) p =
-            then-refuses (header-refuses s p) (item-refuses s (readBoxes s turns) (boxes-refuses s turns))
+            then-refuses (header-refuses six s p) (item-refuses s (readBoxes s turns) (boxes-refuses s turns))
 
         meshes-refuses : (s : List ℕ) → Refuses ks (readMeshes s)
         unfolding readFrom

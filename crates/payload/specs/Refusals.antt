@@ -1,12 +1,10 @@
 -- Which refusals each call can give: only those that document 01 lists for it, and 12 only where it is listed.
 -- The proof is in proofs/RefusalProofs.antt.
 use Prim.Native.Nat.{ℕ}
-use mathlib.Core.Path.{_≡_}
-use mathlib.Core.Bool.{Bool, true, false, _||_}
 use mathlib.Core.List.{List, [], _∷_}
-use lib.Dec.{eqb}
 use lib.Ieee.{Float}
-use Rattle.bits.specs.Verdict.{Verdict, accepted, needs, declined, limited, mapped}
+use Rattle.bits.specs.Verdict.{limited, mapped}
+use Rattle.bits.specs.Refusals.{Refuses, RefusesOr12}
 use Rattle.payload.specs.Lent.{inItems, answerFor}
 use Rattle.payload.specs.Fill.{bothLengths}
 use Rattle.payload.specs.Crop.{full}
@@ -21,21 +19,6 @@ use Rattle.payload.specs.Tables.{tableLengths, bodyRead, tablesPlan}
 use Rattle.payload.specs.MeshWrite.{meshWritten}
 use Rattle.payload.specs.declared.crop.Bounds.{Bounds}
 use Rattle.payload.specs.declared.equi.EquiFields.{EquiFields}
-
--- k is one of these numbers
-abbrev pub among : ℕ → List ℕ → Bool
-among k [] = false
-among k (j ∷ ks) = eqb k j || among k ks
-
--- a value, or a refusal with one of these numbers, and never 12
-pub data Refuses {A : Type 0} (ks : List ℕ) : Verdict A → Type 0 where
-  gives : (a : A) → Refuses ks (accepted a)
-  refuses : (k : ℕ) → among k ks ≡ true → Refuses ks (declined k)
-
--- the same, or 12, the lengths that the lent buffers need
-pub data RefusesOr12 {A : Type 0} (ks : List ℕ) : Verdict A → Type 0 where
-  listed : {v : Verdict A} → Refuses ks v → RefusesOr12 ks v
-  asks : (l : List ℕ) → RefusesOr12 ks (needs l)
 
 -- of each call, what its contract says that it answers, whatever buffers are lent
 pub record Refusals : Type 0 where

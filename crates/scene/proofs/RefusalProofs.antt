@@ -1,17 +1,15 @@
 -- Which refusals the scene call can give, from those of the calls that it makes. Assumes nothing.
 use Prim.Native.Nat.{ℕ, _<_}
 use mathlib.Core.Path.{_≡_, refl, sym}
-use mathlib.Core.List.{List, [], _∷_, _++_, map}
+use mathlib.Core.List.{List, [], _∷_, _++_}
 use mathlib.Core.Bool.{Bool, true, false, _||_, cond}
 use native.Mathlib.Omega.{arith}
 use lib.Dec.{eqb}
-use lib.ListN.{length}
 use lib.Ieee.{Float}
-use Rattle.bits.specs.Verdict.{Verdict, accepted, needs, declined, limited, mapped}
+use Rattle.bits.specs.Verdict.{Verdict, accepted, declined, limited, mapped}
+use Rattle.bits.specs.Refusals.{among, Refuses, gives, refuses, RefusesOr12}
 use Rattle.bits.proofs.VerdictLaws.{clash, then-yes, then-no}
-use Rattle.payload.specs.Lent.{Plan, allFit, answerFor}
 use Rattle.payload.specs.Fill.{bothLengths}
-use Rattle.payload.specs.Refusals.{among, Refuses, gives, refuses, RefusesOr12, listed, asks}
 use Rattle.payload.specs.Equi.{equiRead, withCrop}
 use Rattle.payload.specs.Cbmp.{cbmpRead}
 use Rattle.payload.specs.Sphere.{gridUsable, sphereNumbers, sphereUvs}
@@ -20,7 +18,7 @@ use Rattle.payload.specs.Meshes.{listSize}
 use Rattle.payload.specs.MeshRead.{readMeshes}
 use Rattle.payload.specs.declared.crop.Bounds.{Bounds}
 use Rattle.payload.specs.declared.equi.EquiFields.{EquiFields}
-use Rattle.payload.proofs.LentLaws.{refused}
+use Rattle.payload.proofs.LentLaws.{refused, answer-refuses}
 use Rattle.payload.proofs.Theorems.{refusals, limited-mapped}
 use Rattle.scene.specs.Scene.{Kind, equi, cbmp, mesh, kindOf, Given, Named, crop, padding, three}
 use Rattle.scene.specs.Scene.{planOf, kindPlan, Call, scenePlan, sceneAnswer}
@@ -46,22 +44,12 @@ module _ {ks : List ℕ} where
   wider h (gives a) = gives a
   wider h (refuses k e) = refuses k (h k e)
 
-  answer-refuses : {A : Type 0} (v : Verdict (Plan A)) (buffers : List (List ℕ)) → Refuses ks v
-      → RefusesOr12 ks (answerFor v buffers)
-  unfolding answerFor
-  answer-refuses v buffers (gives p) = go (allFit (p .lists) buffers)
-    where
-      go : (b : Bool) → RefusesOr12 ks (cond b (accepted (p .answer)) (needs (map length (p .lists))))
-      go true = listed (gives (p .answer))
-      go false = asks (map length (p .lists))
-  answer-refuses v buffers (refuses k e) = listed (refuses k e)
-
   -- the call refuses as its kind does
   of-kind : (c : Call) (k : Kind) → kindOf (c .kind) ≡ accepted k → Refuses ks (kindPlan k (c .given) (c .payload))
       → RefusesOr12 ks (sceneAnswer c)
   of-kind c k e r =
       rw (then-yes (kindOf (c .kind)) (λ k. kindPlan k (c .given) (c .payload)) k e)
-      (answer-refuses (kindPlan k (c .given) (c .payload)) (three (c .buffers)) r)
+      (answer-refuses (three (c .buffers)) r)
 
 -- ---- some numbers are among more of them
 

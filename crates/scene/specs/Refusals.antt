@@ -4,7 +4,7 @@ use Prim.Native.Nat.{_<_}
 use mathlib.Core.Path.{_≡_}
 use mathlib.Core.List.{[], _∷_}
 use Rattle.bits.specs.Verdict.{declined}
-use Rattle.payload.specs.Refusals.{RefusesOr12}
+use Rattle.bits.specs.Refusals.{RefusesOr12}
 use Rattle.scene.specs.Scene.{Call, sceneAnswer}
 
 pub record SceneRefusals : Type 0 where
