@@ -1,0 +1,26 @@
+-- `of_records` meets its contract, variant by variant. Assumes nothing.
+use borrow.Author.Needs.{needs}
+use Rattle.capi.proofs.meshes.of_records.Statement.{statement}
+use Rattle.capi.proofs.meshes.of_records.Tie as tie
+
+enum-known-x : tie.Need-enum-known-x
+enum-known-x c = search needs
+
+enum-known-x-2 : tie.Need-enum-known-x-2
+enum-known-x-2 c = search needs
+
+enum-known-x-3 : tie.Need-enum-known-x-3
+enum-known-x-3 c = search needs
+
+returns : tie.Need-returns
+returns c = rw (c .before .x .given .1)
+
+returns-2 : tie.Need-returns-2
+returns-2 c = rw (c .before .x2 .given .1)
+
+returns-3 : tie.Need-returns-3
+returns-3 c = rw (c .before .x3 .given .1)
+
+pub of-records-spec : {M : Type 1} → statement M
+of-records-spec =
+    tie.close (tie.spec enum-known-x enum-known-x-2 enum-known-x-3 returns returns-2 returns-3)

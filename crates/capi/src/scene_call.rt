@@ -1,0 +1,91 @@
+// The scene call.
+use super::reply::Reply;
+use super::reply::tell;
+use super::reply::word;
+use scene::SceneAnswer;
+ghost use mathlib.Core.Path.{_≡_};
+ghost use mathlib.Core.List.{[], _∷_};
+ghost use Rattle.scene.specs.Scene.{call, sceneAnswer, sceneLeaves, sceneSays};
+ghost use Rattle.capi.specs.Answer.{answers, leaves, told, says};
+ghost use Rattle.capi.specs.Scene.{sceneWords};
+
+fn of_scene(x: SceneAnswer) -> Reply
+    ensures { λ r. ⌜ says r ≡ told sceneWords (sceneSays x) ⌝ }
+{
+    match x {
+        SceneAnswer::Crop(b, n) => Reply::Eight(
+            0,
+            word(b.top),
+            word(b.bottom),
+            word(b.left),
+            word(b.right),
+            n.numbers as u64,
+            n.floats as u64,
+            n.records as u64,
+        ),
+        SceneAnswer::Padding(p, n) => Reply::Eight(
+            1,
+            p as u64,
+            0,
+            0,
+            0,
+            n.numbers as u64,
+            n.floats as u64,
+            n.records as u64,
+        ),
+        SceneAnswer::Meshes(c, n) => Reply::Eight(
+            2,
+            c.meshes as u64,
+            c.submeshes as u64,
+            c.points as u64,
+            0,
+            n.numbers as u64,
+            n.floats as u64,
+            n.records as u64,
+        ),
+        SceneAnswer::Needs(n) => Reply::NeedsThree(
+            n.numbers as u64,
+            n.floats as u64,
+            n.records as u64,
+        ),
+        SceneAnswer::Declined(k) => Reply::Declined(k),
+    }
+}
+
+#[no_mangle]
+pub extern "C" fn capi_scene(
+    kind: u32,
+    payload: &[u8],
+    rings: u32,
+    sectors: u32,
+    cells: u32,
+    radius: f32,
+    face_width: u32,
+    numbers: &mut [u16],
+    floats: &mut [u32],
+    records: &mut [u32],
+    words: &mut [u64],
+) -> i64
+    ensures answer { λ r. ⌜ r ≡ answers (told sceneWords
+        (sceneAnswer (call kind payload rings sectors cells radius «face_width» numbers floats records))) ⌝ }
+    ensures words { λ _. ⌜ now (words .exit) ≡ leaves (now (words .entry)) (told sceneWords
+        (sceneAnswer (call kind payload rings sectors cells radius «face_width» numbers floats records))) ⌝ }
+    ensures buffers { λ _. ⌜ now (numbers .exit) ∷ now (floats .exit) ∷ now (records .exit) ∷ []
+        ≡ sceneLeaves (call kind payload rings sectors cells radius «face_width» numbers floats records) ⌝ }
+{
+    tell(
+        words,
+        of_scene(scene::scene(
+            kind,
+            payload,
+            rings,
+            sectors,
+            cells,
+            radius,
+            face_width,
+            numbers,
+            floats,
+            records,
+        )),
+    )
+}
