@@ -8,30 +8,26 @@ use lib.IntN.{ℤ, pos, negsuc, negℤ}
 use lib.Dec.{leb}
 use Rattle.bits.specs.Verdict.{Verdict, accepted, needs, declined}
 use Rattle.bits.specs.Header.{Item, listEnd, box}
-use Rattle.capi.specs.declared.reply.Reply.{Reply}
-use Rattle.capi.specs.declared.reply.Reply.the-variants as R
 
--- how many words the value has, -12 where a buffer is too short, -k for refusal k
-unfoldable pub answers : Verdict (List ℕ) → ℤ
-answers (accepted ws) = pos (length ws)
-answers (needs ws) = negsuc 11
-answers (declined k) = negℤ (pos k)
+-- the i64: how many words the value has, -12 where a buffer is too short, -k for refusal k
+unfoldable pub codeOf : Verdict (List ℕ) → ℤ
+codeOf (accepted ws) = pos (length ws)
+codeOf (needs ws) = negsuc 11
+codeOf (declined k) = negℤ (pos k)
+
+-- the words: the value's, or the lengths that the buffers need
+abbrev pub wordsOf : Verdict (List ℕ) → List ℕ
+wordsOf (accepted ws) = ws
+wordsOf (needs ws) = ws
+wordsOf (declined k) = []
 
 -- d with ws stored from place 0 on, where they fit
-abbrev pub stored : List ℕ → List ℕ → List ℕ
+unfoldable pub stored : List ℕ → List ℕ → List ℕ
 stored d ws = cond (leb (length ws) (length d)) (sets d 0 ws) d
 
 -- what the lent words d are afterwards
-unfoldable pub leaves : List ℕ → Verdict (List ℕ) → List ℕ
-leaves d (accepted ws) = stored d ws
-leaves d (needs ws) = stored d ws
-leaves d (declined k) = d
-
--- a verdict whose value is put into words
-abbrev pub told : {A : Type 0} → (A → List ℕ) → Verdict A → Verdict (List ℕ)
-told f (accepted a) = accepted (f a)
-told f (needs ws) = needs ws
-told f (declined k) = declined k
+unfoldable pub wordsAfter : List ℕ → Verdict (List ℕ) → List ℕ
+wordsAfter d v = stored d (wordsOf v)
 
 -- the words of a value of each kind
 abbrev pub none : Unit {0} → List ℕ
@@ -42,6 +38,9 @@ one a = a ∷ []
 
 abbrev pub two : ℕ × ℕ → List ℕ
 two v = v .0 ∷ v .1 ∷ []
+
+abbrev pub three : ℕ × ℕ × ℕ → List ℕ
+three v = v .0 ∷ v .1 ∷ v .2 ∷ []
 
 abbrev pub item : Item → List ℕ
 item listEnd = []
@@ -65,17 +64,3 @@ numbered (declined k) = negℤ (pos k)
 abbrev pub truth : Bool → ℤ
 truth true = pos 1
 truth false = pos 0
-
--- what each reply of the code stands for
-abbrev pub says : Reply → Verdict (List ℕ)
-says R.Nothing = accepted []
-says (R.One a) = accepted (a ∷ [])
-says (R.Two a b) = accepted (a ∷ b ∷ [])
-says (R.Three a b c) = accepted (a ∷ b ∷ c ∷ [])
-says (R.Four a b c d) = accepted (a ∷ b ∷ c ∷ d ∷ [])
-says (R.Six a b c d e f) = accepted (a ∷ b ∷ c ∷ d ∷ e ∷ f ∷ [])
-says (R.Eight a b c d e f g h) = accepted (a ∷ b ∷ c ∷ d ∷ e ∷ f ∷ g ∷ h ∷ [])
-says (R.Needs n) = needs (n ∷ [])
-says (R.NeedsThree a b c) = needs (a ∷ b ∷ c ∷ [])
-says (R.NeedsFour a b c d) = needs (a ∷ b ∷ c ∷ d ∷ [])
-says (R.Declined k) = declined k

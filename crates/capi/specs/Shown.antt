@@ -69,8 +69,5 @@ eyeOf n = cond (eqb n 0) Left Right
 abbrev pub sizeWords : MeshListSize → List ℕ
 sizeWords n = n .meshes ∷ n .submeshes ∷ n .points ∷ n .numbers ∷ n .floats ∷ n .records ∷ []
 
-abbrev pub countWords : ℕ × ℕ × ℕ → List ℕ
-countWords v = v .0 ∷ v .1 ∷ v .2 ∷ []
-
 abbrev pub tableWords : TableLengths → List ℕ
 tableWords n = n .pool ∷ n .coordinates ∷ n .submeshes ∷ n .points ∷ []

@@ -1,48 +1,56 @@
 // The counts of vertices and indices.
 use super::reply::Reply;
-use super::reply::tell;
+use super::reply::accept;
+use super::reply::decline;
+use super::reply::hand_out;
 use payload::Counted;
 ghost use mathlib.Core.Path.{_≡_};
+ghost use Rattle.bits.specs.Verdict.{mapped};
 ghost use Rattle.payload.specs.Count.{countedSays, vertexCount, indexCount, cubemapVertexCount, cubemapIndexCount};
-ghost use Rattle.capi.specs.Answer.{answers, leaves, told, one, says};
+ghost use Rattle.capi.specs.Answer.{codeOf, wordsAfter, one};
+ghost use Rattle.capi.specs.Reply.{Says};
 
 fn of_count(x: Counted) -> Reply
-    ensures { λ r. ⌜ says r ≡ told one (countedSays x) ⌝ }
+    ensures { λ r. ⌜ Says r (mapped one (countedSays x)) ⌝ }
 {
     match x {
-        Counted::Count(n) => Reply::One(n),
-        Counted::Declined(k) => Reply::Declined(k),
+        Counted::Count(n) => accept(&[n]),
+        Counted::Declined(k) => decline(k),
     }
 }
 
 #[no_mangle]
 pub extern "C" fn capi_vertex_count(rings: u32, sectors: u32, words: &mut [u64]) -> i64
-    ensures answer { λ r. ⌜ r ≡ answers (told one (vertexCount rings sectors)) ⌝ }
-    ensures words { λ _. ⌜ now (words .exit) ≡ leaves (now (words .entry)) (told one (vertexCount rings sectors)) ⌝ }
+    ensures answer { λ r. ⌜ r ≡ codeOf (mapped one (vertexCount rings sectors)) ⌝ }
+    ensures words { λ _. ⌜ now (words .exit)
+        ≡ wordsAfter (now (words .entry)) (mapped one (vertexCount rings sectors)) ⌝ }
 {
-    tell(words, of_count(payload::vertex_count(rings, sectors)))
+    hand_out(words, of_count(payload::vertex_count(rings, sectors)))
 }
 
 #[no_mangle]
 pub extern "C" fn capi_index_count(rings: u32, sectors: u32, words: &mut [u64]) -> i64
-    ensures answer { λ r. ⌜ r ≡ answers (told one (indexCount rings sectors)) ⌝ }
-    ensures words { λ _. ⌜ now (words .exit) ≡ leaves (now (words .entry)) (told one (indexCount rings sectors)) ⌝ }
+    ensures answer { λ r. ⌜ r ≡ codeOf (mapped one (indexCount rings sectors)) ⌝ }
+    ensures words { λ _. ⌜ now (words .exit)
+        ≡ wordsAfter (now (words .entry)) (mapped one (indexCount rings sectors)) ⌝ }
 {
-    tell(words, of_count(payload::index_count(rings, sectors)))
+    hand_out(words, of_count(payload::index_count(rings, sectors)))
 }
 
 #[no_mangle]
 pub extern "C" fn capi_cubemap_vertex_count(cells: u32, words: &mut [u64]) -> i64
-    ensures answer { λ r. ⌜ r ≡ answers (told one (cubemapVertexCount cells)) ⌝ }
-    ensures words { λ _. ⌜ now (words .exit) ≡ leaves (now (words .entry)) (told one (cubemapVertexCount cells)) ⌝ }
+    ensures answer { λ r. ⌜ r ≡ codeOf (mapped one (cubemapVertexCount cells)) ⌝ }
+    ensures words { λ _. ⌜ now (words .exit)
+        ≡ wordsAfter (now (words .entry)) (mapped one (cubemapVertexCount cells)) ⌝ }
 {
-    tell(words, of_count(payload::cubemap_vertex_count(cells)))
+    hand_out(words, of_count(payload::cubemap_vertex_count(cells)))
 }
 
 #[no_mangle]
 pub extern "C" fn capi_cubemap_index_count(cells: u32, words: &mut [u64]) -> i64
-    ensures answer { λ r. ⌜ r ≡ answers (told one (cubemapIndexCount cells)) ⌝ }
-    ensures words { λ _. ⌜ now (words .exit) ≡ leaves (now (words .entry)) (told one (cubemapIndexCount cells)) ⌝ }
+    ensures answer { λ r. ⌜ r ≡ codeOf (mapped one (cubemapIndexCount cells)) ⌝ }
+    ensures words { λ _. ⌜ now (words .exit)
+        ≡ wordsAfter (now (words .entry)) (mapped one (cubemapIndexCount cells)) ⌝ }
 {
-    tell(words, of_count(payload::cubemap_index_count(cells)))
+    hand_out(words, of_count(payload::cubemap_index_count(cells)))
 }

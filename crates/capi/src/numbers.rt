@@ -1,13 +1,13 @@
 // The calls on numbers and floats.
-use super::reply::Reply;
-use super::reply::tell;
+use super::reply::accept;
+use super::reply::hand_out;
 use bits::Running;
 ghost use mathlib.Core.Path.{_≡_};
 ghost use lib.IntN.{pos};
 ghost use Rattle.bits.specs.Verdict.{accepted};
 ghost use Rattle.bits.specs.Number.{meaning, steppedTo, ranOn, widthOf};
 ghost use Rattle.bits.specs.Float.{nearest, scaled, bitsOf};
-ghost use Rattle.capi.specs.Answer.{answers, leaves, one, numbered};
+ghost use Rattle.capi.specs.Answer.{codeOf, wordsAfter, one, numbered};
 
 #[no_mangle]
 pub extern "C" fn capi_zigzag(n: u32) -> i64
@@ -18,10 +18,11 @@ pub extern "C" fn capi_zigzag(n: u32) -> i64
 
 #[no_mangle]
 pub extern "C" fn capi_stepped(last: u32, field: u32, words: &mut [u64]) -> i64
-    ensures answer { λ r. ⌜ r ≡ answers (accepted (one (steppedTo last field))) ⌝ }
-    ensures words { λ _. ⌜ now (words .exit) ≡ leaves (now (words .entry)) (accepted (one (steppedTo last field))) ⌝ }
+    ensures answer { λ r. ⌜ r ≡ codeOf (accepted (one (steppedTo last field))) ⌝ }
+    ensures words { λ _. ⌜ now (words .exit)
+        ≡ wordsAfter (now (words .entry)) (accepted (one (steppedTo last field))) ⌝ }
 {
-    tell(words, Reply::One(bits::stepped(last, field)))
+    hand_out(words, accept(&[bits::stepped(last, field)]))
 }
 
 #[no_mangle]

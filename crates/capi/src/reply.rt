@@ -1,34 +1,21 @@
 // What a call answered, in the form in which it is handed to C.
-use bits::BoxHeader;
-use bits::ByteRead;
-use bits::FieldRead;
-use bits::Put;
-use bits::Seek;
-use bits::WordRead;
+use payload::Bounds;
 use payload::Filled;
 ghost use mathlib.Core.Path.{_≡_};
-ghost use Rattle.bits.specs.Read.{byteSays, wordSays, fieldSays, seekSays};
-ghost use Rattle.bits.specs.Header.{headerSays};
-ghost use Rattle.bits.specs.Put.{putSays};
+ghost use Prim.Native.Nat.{_≤_};
+ghost use lib.ListN.{length};
+ghost use Rattle.bits.specs.Verdict.{accepted, needs, declined, mapped};
 ghost use Rattle.bits.specs.Float.{bitsOf};
 ghost use Rattle.payload.specs.Fill.{filledSays};
-ghost use Rattle.capi.specs.Answer.{answers, leaves, stored, told, none, one, two, item, says, truth};
+ghost use Rattle.capi.specs.Answer.{stored, one, truth};
+ghost use Rattle.capi.specs.Reply.{Holds, Says, usedWords};
+ghost use Rattle.capi.specs.Shown.{sideWords};
 
-pub enum Reply {
-    // Accepted, with up to eight words.
-    Nothing,
-    One(u64),
-    Two(u64, u64),
-    Three(u64, u64, u64),
-    Four(u64, u64, u64, u64),
-    Six(u64, u64, u64, u64, u64, u64),
-    Eight(u64, u64, u64, u64, u64, u64, u64, u64),
-    // The buffers need these lengths.
-    Needs(u64),
-    NeedsThree(u64, u64, u64),
-    NeedsFour(u64, u64, u64, u64),
-    // The number of a refusal.
-    Declined(u8),
+// What a call answered: the i64, and the words that go with it.
+pub struct Reply {
+    pub code: i64,
+    pub words: [u64; 8],
+    pub used: usize,
 }
 
 // Stores words from place 0 on, where they fit.
@@ -46,50 +33,52 @@ fn store(words: &mut [u64], given: &[u64])
 }
 
 // Answers a reply, and stores its words where they fit.
-pub fn tell(words: &mut [u64], reply: Reply) -> i64
-    ensures answer { λ r. ⌜ r ≡ answers (says reply) ⌝ }
-    ensures words { λ _. ⌜ now (words .exit) ≡ leaves (now (words .entry)) (says reply) ⌝ }
+pub fn hand_out(words: &mut [u64], reply: Reply) -> i64
+    requires { ⌜ reply .used ≤ length (reply .words) ⌝ }
+    ensures answer { λ r. ⌜ r ≡ reply .code ⌝ }
+    ensures words { λ _. ⌜ now (words .exit) ≡ stored (now (words .entry)) (usedWords reply) ⌝ }
 {
-    match reply {
-        Reply::Nothing => 0,
-        Reply::One(a) => {
-            store(words, &[a]);
-            1
-        }
-        Reply::Two(a, b) => {
-            store(words, &[a, b]);
-            2
-        }
-        Reply::Three(a, b, c) => {
-            store(words, &[a, b, c]);
-            3
-        }
-        Reply::Four(a, b, c, d) => {
-            store(words, &[a, b, c, d]);
-            4
-        }
-        Reply::Six(a, b, c, d, e, f) => {
-            store(words, &[a, b, c, d, e, f]);
-            6
-        }
-        Reply::Eight(a, b, c, d, e, f, g, h) => {
-            store(words, &[a, b, c, d, e, f, g, h]);
-            8
-        }
-        Reply::Needs(n) => {
-            store(words, &[n]);
-            -12
-        }
-        Reply::NeedsThree(a, b, c) => {
-            store(words, &[a, b, c]);
-            -12
-        }
-        Reply::NeedsFour(a, b, c, d) => {
-            store(words, &[a, b, c, d]);
-            -12
-        }
-        Reply::Declined(k) => -(k as i64),
+    let given = reply.words;
+    let used = reply.used;
+    store(words, &given[..used]);
+    reply.code
+}
+
+// A code with the words that go with it.
+fn with_words(code: i64, given: &[u64]) -> Reply
+    requires { ⌜ length (now given) ≤ 8 ⌝ }
+    ensures { λ r. ⌜ Holds r code (now (given .entry)) ⌝ }
+{
+    let mut words = [0u64; 8];
+    store(&mut words, given);
+    Reply {
+        code,
+        words,
+        used: given.len(),
     }
+}
+
+// A value, in at most eight words.
+pub fn accept(given: &[u64]) -> Reply
+    requires { ⌜ length (now given) ≤ 8 ⌝ }
+    ensures { λ r. ⌜ Says r (accepted (now (given .entry))) ⌝ }
+{
+    with_words(given.len() as i64, given)
+}
+
+// The lengths that the buffers need.
+pub fn need(given: &[u64]) -> Reply
+    requires { ⌜ length (now given) ≤ 8 ⌝ }
+    ensures { λ r. ⌜ Says r (needs (now (given .entry))) ⌝ }
+{
+    with_words(-12, given)
+}
+
+// The number of a refusal.
+pub fn decline(k: u8) -> Reply
+    ensures { λ r. ⌜ Says r (declined k) ⌝ }
+{
+    with_words(-(k as i64), &[])
 }
 
 pub fn flag(x: bool) -> i64
@@ -105,70 +94,20 @@ pub fn word(x: f32) -> u64
     bits::float_bits(x) as u64
 }
 
-// An answer as a reply, for each kind of answer.
-pub fn of_seek(x: Seek) -> Reply
-    ensures { λ r. ⌜ says r ≡ told one (seekSays x) ⌝ }
+// A crop as words.
+pub fn side_words(b: Bounds) -> [u64; 4]
+    ensures { λ r. ⌜ r ≡ sideWords b ⌝ }
 {
-    match x {
-        Seek::To(c) => Reply::One(c.at as u64),
-        Seek::Short => Reply::Declined(3),
-    }
+    [word(b.top), word(b.bottom), word(b.left), word(b.right)]
 }
 
-pub fn of_byte(x: ByteRead) -> Reply
-    ensures { λ r. ⌜ says r ≡ told two (byteSays x) ⌝ }
-{
-    match x {
-        ByteRead::Value(v, c) => Reply::Two(v as u64, c.at as u64),
-        ByteRead::Short => Reply::Declined(3),
-    }
-}
-
-pub fn of_word(x: WordRead) -> Reply
-    ensures { λ r. ⌜ says r ≡ told two (wordSays x) ⌝ }
-{
-    match x {
-        WordRead::Value(v, c) => Reply::Two(v as u64, c.at as u64),
-        WordRead::Short => Reply::Declined(3),
-    }
-}
-
-pub fn of_field(x: FieldRead) -> Reply
-    ensures { λ r. ⌜ says r ≡ told two (fieldSays x) ⌝ }
-{
-    match x {
-        FieldRead::Value(v, c) => Reply::Two(v as u64, c.bit as u64),
-        FieldRead::Short => Reply::Declined(3),
-    }
-}
-
-pub fn of_header(x: BoxHeader) -> Reply
-    ensures { λ r. ⌜ says r ≡ told item (headerSays x) ⌝ }
-{
-    match x {
-        BoxHeader::Header { fourcc, body, end } => {
-            Reply::Three(fourcc as u64, body as u64, end as u64)
-        }
-        BoxHeader::ListEnd => Reply::Nothing,
-        BoxHeader::BadSize => Reply::Declined(6),
-    }
-}
-
-pub fn of_put(x: Put) -> Reply
-    ensures { λ r. ⌜ says r ≡ told none (putSays x) ⌝ }
-{
-    match x {
-        Put::Done => Reply::Nothing,
-        Put::Needs(n) => Reply::Needs(n as u64),
-    }
-}
-
+// What a call answered that fills one lent buffer.
 pub fn of_filled(x: Filled) -> Reply
-    ensures { λ r. ⌜ says r ≡ told one (filledSays x) ⌝ }
+    ensures { λ r. ⌜ Says r (mapped one (filledSays x)) ⌝ }
 {
     match x {
-        Filled::Count(n) => Reply::One(n as u64),
-        Filled::Needs(n) => Reply::Needs(n as u64),
-        Filled::Declined(k) => Reply::Declined(k),
+        Filled::Count(n) => accept(&[n as u64]),
+        Filled::Needs(n) => need(&[n as u64]),
+        Filled::Declined(k) => decline(k),
     }
 }

@@ -1,54 +1,64 @@
 // The scene call.
 use super::reply::Reply;
-use super::reply::tell;
-use super::reply::word;
+use super::reply::accept;
+use super::reply::decline;
+use super::reply::hand_out;
+use super::reply::need;
+use super::reply::side_words;
 use scene::SceneAnswer;
 ghost use mathlib.Core.Path.{_≡_};
 ghost use mathlib.Core.List.{[], _∷_};
+ghost use Rattle.bits.specs.Verdict.{mapped};
 ghost use Rattle.scene.specs.Scene.{call, sceneAnswer, sceneLeaves, sceneSays};
-ghost use Rattle.capi.specs.Answer.{answers, leaves, told, says};
+ghost use Rattle.capi.specs.Answer.{codeOf, wordsAfter};
+ghost use Rattle.capi.specs.Reply.{Says};
 ghost use Rattle.capi.specs.Scene.{sceneWords};
 
 fn of_scene(x: SceneAnswer) -> Reply
-    ensures { λ r. ⌜ says r ≡ told sceneWords (sceneSays x) ⌝ }
+    ensures { λ r. ⌜ Says r (mapped sceneWords (sceneSays x)) ⌝ }
 {
     match x {
-        SceneAnswer::Crop(b, n) => Reply::Eight(
-            0,
-            word(b.top),
-            word(b.bottom),
-            word(b.left),
-            word(b.right),
-            n.numbers as u64,
-            n.floats as u64,
-            n.records as u64,
+        SceneAnswer::Crop(b, n) => {
+            let w = side_words(b);
+            accept(
+                &[
+                    0,
+                    w[0],
+                    w[1],
+                    w[2],
+                    w[3],
+                    n.numbers as u64,
+                    n.floats as u64,
+                    n.records as u64,
+                ],
+            )
+        }
+        SceneAnswer::Padding(p, n) => accept(
+            &[
+                1,
+                p as u64,
+                0,
+                0,
+                0,
+                n.numbers as u64,
+                n.floats as u64,
+                n.records as u64,
+            ],
         ),
-        SceneAnswer::Padding(p, n) => Reply::Eight(
-            1,
-            p as u64,
-            0,
-            0,
-            0,
-            n.numbers as u64,
-            n.floats as u64,
-            n.records as u64,
+        SceneAnswer::Meshes(c, n) => accept(
+            &[
+                2,
+                c.meshes as u64,
+                c.submeshes as u64,
+                c.points as u64,
+                0,
+                n.numbers as u64,
+                n.floats as u64,
+                n.records as u64,
+            ],
         ),
-        SceneAnswer::Meshes(c, n) => Reply::Eight(
-            2,
-            c.meshes as u64,
-            c.submeshes as u64,
-            c.points as u64,
-            0,
-            n.numbers as u64,
-            n.floats as u64,
-            n.records as u64,
-        ),
-        SceneAnswer::Needs(n) => Reply::NeedsThree(
-            n.numbers as u64,
-            n.floats as u64,
-            n.records as u64,
-        ),
-        SceneAnswer::Declined(k) => Reply::Declined(k),
+        SceneAnswer::Needs(n) => need(&[n.numbers as u64, n.floats as u64, n.records as u64]),
+        SceneAnswer::Declined(k) => decline(k),
     }
 }
 
@@ -66,14 +76,14 @@ pub extern "C" fn capi_scene(
     records: &mut [u32],
     words: &mut [u64],
 ) -> i64
-    ensures answer { λ r. ⌜ r ≡ answers (told sceneWords
+    ensures answer { λ r. ⌜ r ≡ codeOf (mapped sceneWords
         (sceneAnswer (call kind payload rings sectors cells radius «face_width» numbers floats records))) ⌝ }
-    ensures words { λ _. ⌜ now (words .exit) ≡ leaves (now (words .entry)) (told sceneWords
+    ensures words { λ _. ⌜ now (words .exit) ≡ wordsAfter (now (words .entry)) (mapped sceneWords
         (sceneAnswer (call kind payload rings sectors cells radius «face_width» numbers floats records))) ⌝ }
     ensures buffers { λ _. ⌜ now (numbers .exit) ∷ now (floats .exit) ∷ now (records .exit) ∷ []
         ≡ sceneLeaves (call kind payload rings sectors cells radius «face_width» numbers floats records) ⌝ }
 {
-    tell(
+    hand_out(
         words,
         of_scene(scene::scene(
             kind,

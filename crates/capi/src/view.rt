@@ -1,7 +1,9 @@
 // The viewer's small calls. A layout, a pair and a projection come as their raw numbers, an eye as 0 for the left one.
 use super::reply::Reply;
+use super::reply::accept;
 use super::reply::flag;
-use super::reply::tell;
+use super::reply::hand_out;
+use super::reply::side_words;
 use super::reply::word;
 use payload::AnaglyphPair;
 use payload::Eye;
@@ -15,7 +17,8 @@ ghost use Rattle.bits.specs.Verdict.{accepted};
 ghost use Rattle.bits.specs.Float.{bitsOf};
 ghost use Rattle.payload.specs.View.{layoutOf, pairOf, projectionOf, windowed, panoramic, patchOf};
 ghost use Rattle.payload.specs.View.{windowOf, mixOf, fovForZoom, zoomForFov};
-ghost use Rattle.capi.specs.Answer.{answers, leaves, says, truth};
+ghost use Rattle.capi.specs.Answer.{codeOf, wordsAfter, truth};
+ghost use Rattle.capi.specs.Reply.{Says};
 ghost use Rattle.capi.specs.Shown.{layoutNumber, pairNumber, projectionNumber, eyeOf, patchWords};
 
 #[no_mangle]
@@ -69,21 +72,21 @@ pub extern "C" fn capi_is_panoramic(projection: u32) -> i64
 }
 
 fn of_patch(x: Patch) -> Reply
-    ensures { λ r. ⌜ says r ≡ accepted (patchWords x) ⌝ }
+    ensures { λ r. ⌜ Says r (accepted (patchWords x)) ⌝ }
 {
     match x {
-        Patch::Sphere(b) => Reply::Four(word(b.top), word(b.bottom), word(b.left), word(b.right)),
-        Patch::Nothing => Reply::Nothing,
+        Patch::Sphere(b) => accept(&side_words(b)),
+        Patch::Nothing => accept(&[]),
     }
 }
 
 #[no_mangle]
 pub extern "C" fn capi_projection_bounds(projection: u32, words: &mut [u64]) -> i64
-    ensures answer { λ r. ⌜ r ≡ answers (accepted (patchWords (patchOf (projectionOf projection)))) ⌝ }
+    ensures answer { λ r. ⌜ r ≡ codeOf (accepted (patchWords (patchOf (projectionOf projection)))) ⌝ }
     ensures words { λ _. ⌜ now (words .exit)
-        ≡ leaves (now (words .entry)) (accepted (patchWords (patchOf (projectionOf projection)))) ⌝ }
+        ≡ wordsAfter (now (words .entry)) (accepted (patchWords (patchOf (projectionOf projection)))) ⌝ }
 {
-    tell(words, of_patch(Projection::from_raw(projection).bounds()))
+    hand_out(words, of_patch(Projection::from_raw(projection).bounds()))
 }
 
 fn eye_of(v: u32) -> Eye
@@ -97,25 +100,25 @@ fn eye_of(v: u32) -> Eye
 
 #[no_mangle]
 pub extern "C" fn capi_uv_window(layout: u32, eye: u32, words: &mut [u64]) -> i64
-    ensures answer { λ r. ⌜ r ≡ answers (accepted (map bitsOf (windowOf (layoutOf layout) (eyeOf eye)))) ⌝ }
+    ensures answer { λ r. ⌜ r ≡ codeOf (accepted (map bitsOf (windowOf (layoutOf layout) (eyeOf eye)))) ⌝ }
     ensures words { λ _. ⌜ now (words .exit)
-        ≡ leaves (now (words .entry)) (accepted (map bitsOf (windowOf (layoutOf layout) (eyeOf eye)))) ⌝ }
+        ≡ wordsAfter (now (words .entry)) (accepted (map bitsOf (windowOf (layoutOf layout) (eyeOf eye)))) ⌝ }
 {
     let w = payload::uv_window(StereoLayout::from_raw(layout), eye_of(eye));
-    tell(
+    hand_out(
         words,
-        Reply::Four(word(w[0]), word(w[1]), word(w[2]), word(w[3])),
+        accept(&[word(w[0]), word(w[1]), word(w[2]), word(w[3])]),
     )
 }
 
 #[no_mangle]
 pub extern "C" fn capi_anaglyph_mix(pair: u32, eye: u32, words: &mut [u64]) -> i64
-    ensures answer { λ r. ⌜ r ≡ answers (accepted (map bitsOf (mixOf (pairOf pair) (eyeOf eye)))) ⌝ }
+    ensures answer { λ r. ⌜ r ≡ codeOf (accepted (map bitsOf (mixOf (pairOf pair) (eyeOf eye)))) ⌝ }
     ensures words { λ _. ⌜ now (words .exit)
-        ≡ leaves (now (words .entry)) (accepted (map bitsOf (mixOf (pairOf pair) (eyeOf eye)))) ⌝ }
+        ≡ wordsAfter (now (words .entry)) (accepted (map bitsOf (mixOf (pairOf pair) (eyeOf eye)))) ⌝ }
 {
     let m = payload::anaglyph_mix(AnaglyphPair::from_raw(pair), eye_of(eye));
-    tell(words, Reply::Three(word(m[0]), word(m[1]), word(m[2])))
+    hand_out(words, accept(&[word(m[0]), word(m[1]), word(m[2])]))
 }
 
 #[no_mangle]

@@ -1,5 +1,6 @@
 -- `capi_is_usable` meets its contract. Assumes nothing.
-use Rattle.capi.proofs.Handed.{flagged}
+use Rattle.capi.specs.Answer.{truth}
+use Rattle.capi.proofs.Handed.{passed}
 use borrow.Author.Needs.{needs}
 use Rattle.capi.proofs.crops.capi_is_usable.Statement.{statement}
 use Rattle.capi.proofs.crops.capi_is_usable.Tie as tie
@@ -11,7 +12,7 @@ flag-requires : tie.Need-flag-requires
 flag-requires c κs = search needs
 
 returns : tie.Need-returns
-returns c = flagged (c .flag .ok) (c .flag .ensures) (c .before .is-usable .ensures)
+returns c = passed truth (c .flag .ok) (c .flag .ensures) (c .before .is-usable .ensures)
 
 pub capi-is-usable-spec : {M : Type 1} → statement M
 capi-is-usable-spec = tie.close (tie.spec is-usable-requires flag-requires returns)

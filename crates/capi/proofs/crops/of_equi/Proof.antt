@@ -1,12 +1,4 @@
 -- `of_equi` meets its contract, variant by variant. Assumes nothing.
-use mathlib.Core.Path.{sym, ap, _∙_}
-use mathlib.Core.List.{List, _∷_}
-use Prim.Native.Nat.{ℕ}
-use Rattle.bits.specs.Verdict.{accepted}
-use Rattle.payload.specs.Equi.{equiSays}
-use Rattle.capi.specs.Answer.{told}
-use Rattle.capi.specs.Shown.{reading}
-use Rattle.capi.proofs.ShownLaws.{four-words}
 use borrow.Author.Needs.{needs}
 use Rattle.capi.proofs.crops.of_equi.Statement.{statement}
 use Rattle.capi.proofs.crops.of_equi.Tie as tie
@@ -14,57 +6,68 @@ use Rattle.capi.proofs.crops.of_equi.Tie as tie
 enum-known-x : tie.Need-enum-known-x
 enum-known-x c = search needs
 
-cast-t6 : tie.Need-cast-t6
-cast-t6 c = search needs
-
-cast-t7 : tie.Need-cast-t7
-cast-t7 c = search needs
-
-cast-t8 : tie.Need-cast-t8
-cast-t8 c = search needs
+side-words-requires : tie.Need-side-words-requires
+side-words-requires c κs = search needs
 
 cast-t9 : tie.Need-cast-t9
 cast-t9 c = search needs
 
-word-requires : tie.Need-word-requires
-word-requires c κs = search needs
+cast-t10 : tie.Need-cast-t10
+cast-t10 c = search needs
 
-word-requires-2 : tie.Need-word-requires-2
-word-requires-2 c κs = search needs
+cast-t11 : tie.Need-cast-t11
+cast-t11 c = search needs
 
-word-requires-3 : tie.Need-word-requires-3
-word-requires-3 c κs = search needs
+cast-t12 : tie.Need-cast-t12
+cast-t12 c = search needs
 
-word-requires-4 : tie.Need-word-requires-4
-word-requires-4 c κs = search needs
+array-read-t15 : tie.Need-array-read-t15
+array-read-t15 c = search needs
+
+array-read-t18 : tie.Need-array-read-t18
+array-read-t18 c = search needs
+
+array-read-t21 : tie.Need-array-read-t21
+array-read-t21 c = search needs
+
+array-read-t24 : tie.Need-array-read-t24
+array-read-t24 c = search needs
+
+slice-aggregate-accept : tie.Need-slice-aggregate-accept
+slice-aggregate-accept c = search needs
+
+accept-requires : tie.Need-accept-requires
+accept-requires c κs = search needs
 
 enum-known-x-2 : tie.Need-enum-known-x-2
 enum-known-x-2 c = search needs
 
+decline-requires : tie.Need-decline-requires
+decline-requires c κs = search needs
+
 returns : tie.Need-returns
-returns c =
-    let w = c .before .before .before in
-    let g = w .before .before .before .before .before .before .x .given in
-    let f = g .0 .0 in
-    ap (λ (l : List ℕ). accepted (f .t ∷ f .b ∷ f .l ∷ f .r ∷ l)) (four-words (w .word .ensures) (c .before .before .word2 .ensures) (c .before .word3 .ensures) (c .word4 .ensures))
-    ∙ sym (ap (λ x. told reading (equiSays x)) (g .1))
+returns c = rw (c .before .before .before .before .before .before .before .before .x .given .1) (rw (c .before .before .before .before .before .before .side-words .ensures) at (c .accept .ensures))
 
 returns-2 : tie.Need-returns-2
-returns-2 c = rw (c .before .x2 .given .1)
+returns-2 c = rw (c .before .before .x2 .given .1) (c .decline .ensures)
 
 pub of-equi-spec : {M : Type 1} → statement M
 of-equi-spec =
     tie.close
     (tie.spec
     enum-known-x
-    cast-t6
-    cast-t7
-    cast-t8
+    side-words-requires
     cast-t9
-    word-requires
-    word-requires-2
-    word-requires-3
-    word-requires-4
+    cast-t10
+    cast-t11
+    cast-t12
+    array-read-t15
+    array-read-t18
+    array-read-t21
+    array-read-t24
+    slice-aggregate-accept
+    accept-requires
     enum-known-x-2
+    decline-requires
     returns
     returns-2)

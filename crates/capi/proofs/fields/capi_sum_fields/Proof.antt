@@ -1,6 +1,6 @@
 -- `capi_sum_fields` meets its contract. Assumes nothing.
-use mathlib.Core.Path.{ap, _∙_}
-use Rattle.capi.specs.Answer.{told}
+use mathlib.Core.Path.{ap}
+use Rattle.bits.specs.Verdict.{mapped}
 use Rattle.capi.specs.Total.{wrapped}
 use Rattle.capi.proofs.Handed.{handed, narrow-made, too-wide}
 use borrow.Author.Needs.{needs}
@@ -13,8 +13,8 @@ returns c = too-wide wrapped _ _ _ (c .if1 .taken)
 sum-fields-requires : tie.Need-sum-fields-requires
 sum-fields-requires c κs = search needs
 
-tell-requires : tie.Need-tell-requires
-tell-requires c κs = search needs
+hand-out-requires : tie.Need-hand-out-requires
+hand-out-requires c κs = search needs
 
 same-length : tie.Need-same-length
 same-length c = search needs
@@ -23,8 +23,8 @@ returns-2 : tie.Need-returns-2
 returns-2 c =
     let t = c .before .before in
     let e = t .before .before .before in
-    handed _ (t .tell .ok) (t .tell .ensures) (t .before .sum-fields .ensures ∙ ap (told wrapped) (narrow-made _ _ _ (e .if1 .left)))
+    handed _ (t .hand-out .ok) (t .hand-out .ensures) (t .before .sum-fields .ensures) (ap (mapped wrapped) (narrow-made _ _ _ (e .if1 .left)))
 
 pub capi-sum-fields-spec : {M : Type 1} → statement M
 capi-sum-fields-spec =
-    tie.close (tie.spec returns sum-fields-requires tell-requires same-length returns-2)
+    tie.close (tie.spec returns sum-fields-requires hand-out-requires same-length returns-2)

@@ -11,8 +11,8 @@ cubemap-indices-requires c κs = search needs
 of-filled-requires : tie.Need-of-filled-requires
 of-filled-requires c κs = search needs
 
-tell-requires : tie.Need-tell-requires
-tell-requires c κs = search needs
+hand-out-requires : tie.Need-hand-out-requires
+hand-out-requires c κs = search needs
 
 same-length : tie.Need-same-length
 same-length c = search needs
@@ -23,7 +23,7 @@ same-length-2 c = search needs
 returns : tie.Need-returns
 returns c =
     let t = c .before .before in
-    handed-with _ one (t .tell .ok) (t .tell .ensures) (t .before .of-filled .ensures) (t .before .before .before .before .cubemap-indices .ensures)
+    handed-with _ one (t .hand-out .ok) (t .hand-out .ensures) (t .before .of-filled .ensures) (t .before .before .before .before .cubemap-indices .ensures)
 
 pub capi-cubemap-indices-spec : {M : Type 1} → statement M
 capi-cubemap-indices-spec =
@@ -31,7 +31,7 @@ capi-cubemap-indices-spec =
     (tie.spec
     cubemap-indices-requires
     of-filled-requires
-    tell-requires
+    hand-out-requires
     same-length
     same-length-2
     returns)

@@ -1,6 +1,6 @@
 -- `capi_mesh_records` meets its contract. Assumes nothing.
 use Rattle.capi.proofs.Handed.{handed-with}
-use Rattle.capi.specs.Shown.{countWords}
+use Rattle.capi.specs.Answer.{three}
 use borrow.Author.Needs.{needs}
 use Rattle.capi.proofs.meshes.capi_mesh_records.Statement.{statement}
 use Rattle.capi.proofs.meshes.capi_mesh_records.Tie as tie
@@ -11,8 +11,8 @@ mesh-records-requires c κs = search needs
 of-records-requires : tie.Need-of-records-requires
 of-records-requires c κs = search needs
 
-tell-requires : tie.Need-tell-requires
-tell-requires c κs = search needs
+hand-out-requires : tie.Need-hand-out-requires
+hand-out-requires c κs = search needs
 
 same-length : tie.Need-same-length
 same-length c = search needs
@@ -23,7 +23,7 @@ same-length-2 c = search needs
 returns : tie.Need-returns
 returns c =
     let t = c .before .before in
-    handed-with _ countWords (t .tell .ok) (t .tell .ensures) (t .before .of-records .ensures) (t .before .before .before .before .mesh-records .ensures)
+    handed-with _ three (t .hand-out .ok) (t .hand-out .ensures) (t .before .of-records .ensures) (t .before .before .before .before .mesh-records .ensures)
 
 pub capi-mesh-records-spec : {M : Type 1} → statement M
 capi-mesh-records-spec =
@@ -31,7 +31,7 @@ capi-mesh-records-spec =
     (tie.spec
     mesh-records-requires
     of-records-requires
-    tell-requires
+    hand-out-requires
     same-length
     same-length-2
     returns)

@@ -11,8 +11,8 @@ parse-mesh-requires c κs = search needs
 of-tables-requires : tie.Need-of-tables-requires
 of-tables-requires c κs = search needs
 
-tell-requires : tie.Need-tell-requires
-tell-requires c κs = search needs
+hand-out-requires : tie.Need-hand-out-requires
+hand-out-requires c κs = search needs
 
 same-length : tie.Need-same-length
 same-length c = search needs
@@ -32,7 +32,7 @@ same-length-5 c = search needs
 returns : tie.Need-returns
 returns c =
     let t = c .before .before in
-    handed-with _ tableWords (t .tell .ok) (t .tell .ensures) (t .before .of-tables .ensures) (t .before .before .before .before .before .before .before .before .before .before .parse-mesh .ensures)
+    handed-with _ tableWords (t .hand-out .ok) (t .hand-out .ensures) (t .before .of-tables .ensures) (t .before .before .before .before .before .before .before .before .before .before .parse-mesh .ensures)
 
 pub capi-parse-mesh-spec : {M : Type 1} → statement M
 capi-parse-mesh-spec =
@@ -40,7 +40,7 @@ capi-parse-mesh-spec =
     (tie.spec
     parse-mesh-requires
     of-tables-requires
-    tell-requires
+    hand-out-requires
     same-length
     same-length-2
     same-length-3

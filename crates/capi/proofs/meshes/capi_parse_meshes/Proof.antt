@@ -11,8 +11,8 @@ parse-meshes-requires c κs = search needs
 of-meshes-requires : tie.Need-of-meshes-requires
 of-meshes-requires c κs = search needs
 
-tell-requires : tie.Need-tell-requires
-tell-requires c κs = search needs
+hand-out-requires : tie.Need-hand-out-requires
+hand-out-requires c κs = search needs
 
 same-length : tie.Need-same-length
 same-length c = search needs
@@ -29,7 +29,7 @@ same-length-4 c = search needs
 returns : tie.Need-returns
 returns c =
     let t = c .before .before in
-    handed-with _ sizeWords (t .tell .ok) (t .tell .ensures) (t .before .of-meshes .ensures) (t .before .before .before .before .before .before .before .before .parse-meshes .ensures)
+    handed-with _ sizeWords (t .hand-out .ok) (t .hand-out .ensures) (t .before .of-meshes .ensures) (t .before .before .before .before .before .before .before .before .parse-meshes .ensures)
 
 pub capi-parse-meshes-spec : {M : Type 1} → statement M
 capi-parse-meshes-spec =
@@ -37,7 +37,7 @@ capi-parse-meshes-spec =
     (tie.spec
     parse-meshes-requires
     of-meshes-requires
-    tell-requires
+    hand-out-requires
     same-length
     same-length-2
     same-length-3

@@ -2,7 +2,7 @@
 use mathlib.Core.Path.{_∙_}
 use borrow.Author.Tests.{lt-leb}
 use Rattle.capi.specs.Answer.{none}
-use Rattle.capi.proofs.Handed.{handed-told, narrow-made, too-wide}
+use Rattle.capi.proofs.Handed.{handed-mapped, narrow-made, too-wide}
 use borrow.Author.Needs.{needs}
 use Rattle.capi.proofs.put.capi_put_field.Statement.{statement}
 use Rattle.capi.proofs.put.capi_put_field.Tie as tie
@@ -18,8 +18,8 @@ put-field-requires c κs = search needs
 of-put-requires : tie.Need-of-put-requires
 of-put-requires c κs = search needs
 
-tell-requires : tie.Need-tell-requires
-tell-requires c κs = search needs
+hand-out-requires : tie.Need-hand-out-requires
+hand-out-requires c κs = search needs
 
 same-length : tie.Need-same-length
 same-length c = search needs
@@ -32,7 +32,7 @@ returns-2 c =
     let t = c .before .before in
     let p = t .before .before .before .before in
     let w = p .before .before .before .if1 .left in
-    let h = handed-told _ none (t .tell .ok) (t .tell .ensures) (t .before .of-put .ensures) (p .put-field .ensures .0 ∙ narrow-made _ _ _ w) in
+    let h = handed-mapped _ none (t .hand-out .ok) (t .hand-out .ensures) (t .before .of-put .ensures) (p .put-field .ensures .0 ∙ narrow-made _ _ _ w) in
     (h .0, (h .1, p .put-field .ensures .1 ∙ narrow-made _ _ _ w))
 
 pub capi-put-field-spec : {M : Type 1} → statement M
@@ -42,7 +42,7 @@ capi-put-field-spec =
     returns
     put-field-requires
     of-put-requires
-    tell-requires
+    hand-out-requires
     same-length
     same-length-2
     returns-2)

@@ -1,6 +1,6 @@
 -- `capi_put_word` meets its contract. Assumes nothing.
 use Rattle.capi.specs.Answer.{none}
-use Rattle.capi.proofs.Handed.{handed-told}
+use Rattle.capi.proofs.Handed.{handed-mapped}
 use borrow.Author.Needs.{needs}
 use Rattle.capi.proofs.put.capi_put_word.Statement.{statement}
 use Rattle.capi.proofs.put.capi_put_word.Tie as tie
@@ -11,8 +11,8 @@ put-word-requires c κs = search needs
 of-put-requires : tie.Need-of-put-requires
 of-put-requires c κs = search needs
 
-tell-requires : tie.Need-tell-requires
-tell-requires c κs = search needs
+hand-out-requires : tie.Need-hand-out-requires
+hand-out-requires c κs = search needs
 
 same-length : tie.Need-same-length
 same-length c = search needs
@@ -24,10 +24,10 @@ returns : tie.Need-returns
 returns c =
     let t = c .before .before in
     let p = t .before .before .before .before in
-    let h = handed-told _ none (t .tell .ok) (t .tell .ensures) (t .before .of-put .ensures) (p .put-word .ensures .0) in
+    let h = handed-mapped _ none (t .hand-out .ok) (t .hand-out .ensures) (t .before .of-put .ensures) (p .put-word .ensures .0) in
     (h .0, (h .1, p .put-word .ensures .1))
 
 pub capi-put-word-spec : {M : Type 1} → statement M
 capi-put-word-spec =
     tie.close
-    (tie.spec put-word-requires of-put-requires tell-requires same-length same-length-2 returns)
+    (tie.spec put-word-requires of-put-requires hand-out-requires same-length same-length-2 returns)

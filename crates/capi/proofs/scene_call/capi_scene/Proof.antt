@@ -11,8 +11,8 @@ scene-requires c κs = search needs
 of-scene-requires : tie.Need-of-scene-requires
 of-scene-requires c κs = search needs
 
-tell-requires : tie.Need-tell-requires
-tell-requires c κs = search needs
+hand-out-requires : tie.Need-hand-out-requires
+hand-out-requires c κs = search needs
 
 same-length : tie.Need-same-length
 same-length c = search needs
@@ -29,7 +29,7 @@ same-length-4 c = search needs
 returns : tie.Need-returns
 returns c =
     let t = c .before .before in
-    handed-with _ sceneWords (t .tell .ok) (t .tell .ensures) (t .before .of-scene .ensures) (t .before .before .before .before .before .before .before .before .scene .ensures)
+    handed-with _ sceneWords (t .hand-out .ok) (t .hand-out .ensures) (t .before .of-scene .ensures) (t .before .before .before .before .before .before .before .before .scene .ensures)
 
 pub capi-scene-spec : {M : Type 1} → statement M
 capi-scene-spec =
@@ -37,7 +37,7 @@ capi-scene-spec =
     (tie.spec
     scene-requires
     of-scene-requires
-    tell-requires
+    hand-out-requires
     same-length
     same-length-2
     same-length-3

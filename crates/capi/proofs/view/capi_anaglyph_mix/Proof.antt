@@ -36,8 +36,14 @@ array-read-word-3 c = search needs
 word-requires-3 : tie.Need-word-requires-3
 word-requires-3 c κs = search needs
 
-tell-requires : tie.Need-tell-requires
-tell-requires c κs = search needs
+slice-aggregate-accept : tie.Need-slice-aggregate-accept
+slice-aggregate-accept c = search needs
+
+accept-requires : tie.Need-accept-requires
+accept-requires c κs = search needs
+
+hand-out-requires : tie.Need-hand-out-requires
+hand-out-requires c κs = search needs
 
 same-length : tie.Need-same-length
 same-length c = search needs
@@ -45,11 +51,12 @@ same-length c = search needs
 returns : tie.Need-returns
 returns c =
     let t = c .before .before in
-    let w = t .before .before .before in
-    let m = w .before .before in
-    let a = m .before .before .before .before .args in
-    let e = ap threeBits (m .anaglyph-mix .ensures ∙ ap₂ mixOf (m .before .before .from-raw .ensures) (m .before .eye-of .ensures)) ∙ mix-bits (pairOf (a .pair)) (eyeOf (a .eye)) in
-    handed _ (t .tell .ok) (t .tell .ensures) (ap accepted (three-words (w .word .ensures) (t .before .before .word2 .ensures) (t .before .word3 .ensures) ∙ e))
+    let w = t .before .before .before .before .before in
+    let u = w .before .before in
+    let a = u .before .before .before .before .args in
+    let e = ap threeBits (u .anaglyph-mix .ensures ∙ ap₂ mixOf (u .before .before .from-raw .ensures) (u .before .eye-of .ensures)) ∙ mix-bits (pairOf (a .pair)) (eyeOf (a .eye)) in
+    handed _ (t .hand-out .ok) (t .hand-out .ensures) (t .before .accept .ensures)
+    (ap accepted (three-words (w .word .ensures) (t .before .before .before .before .word2 .ensures) (t .before .before .before .word3 .ensures) ∙ e))
 
 pub capi-anaglyph-mix-spec : {M : Type 1} → statement M
 capi-anaglyph-mix-spec =
@@ -64,6 +71,8 @@ capi-anaglyph-mix-spec =
     word-requires-2
     array-read-word-3
     word-requires-3
-    tell-requires
+    slice-aggregate-accept
+    accept-requires
+    hand-out-requires
     same-length
     returns)

@@ -1,7 +1,8 @@
 -- `capi_is_windowed` meets its contract. Assumes nothing.
 use mathlib.Core.Path.{ap, _∙_}
 use Rattle.payload.specs.View.{windowed}
-use Rattle.capi.proofs.Handed.{flagged}
+use Rattle.capi.specs.Answer.{truth}
+use Rattle.capi.proofs.Handed.{passed}
 use borrow.Author.Needs.{needs}
 use Rattle.capi.proofs.view.capi_is_windowed.Statement.{statement}
 use Rattle.capi.proofs.view.capi_is_windowed.Tie as tie
@@ -16,7 +17,7 @@ flag-requires : tie.Need-flag-requires
 flag-requires c κs = search needs
 
 returns : tie.Need-returns
-returns c = flagged (c .flag .ok) (c .flag .ensures) (c .before .is-windowed .ensures ∙ ap windowed (c .before .before .from-raw .ensures))
+returns c = passed truth (c .flag .ok) (c .flag .ensures) (c .before .is-windowed .ensures ∙ ap windowed (c .before .before .from-raw .ensures))
 
 pub capi-is-windowed-spec : {M : Type 1} → statement M
 capi-is-windowed-spec =

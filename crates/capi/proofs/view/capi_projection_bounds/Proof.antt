@@ -16,8 +16,8 @@ bounds-requires c κs = search needs
 of-patch-requires : tie.Need-of-patch-requires
 of-patch-requires c κs = search needs
 
-tell-requires : tie.Need-tell-requires
-tell-requires c κs = search needs
+hand-out-requires : tie.Need-hand-out-requires
+hand-out-requires c κs = search needs
 
 same-length : tie.Need-same-length
 same-length c = search needs
@@ -26,7 +26,7 @@ returns : tie.Need-returns
 returns c =
     let t = c .before .before in
     let p = t .before .before in
-    handed-value _ patchWords (t .tell .ok) (t .tell .ensures) (t .before .of-patch .ensures) (p .bounds .ensures ∙ ap patchOf (p .before .from-raw .ensures))
+    handed-value _ patchWords (t .hand-out .ok) (t .hand-out .ensures) (t .before .of-patch .ensures) (p .bounds .ensures ∙ ap patchOf (p .before .from-raw .ensures))
 
 pub capi-projection-bounds-spec : {M : Type 1} → statement M
 capi-projection-bounds-spec =
@@ -35,6 +35,6 @@ capi-projection-bounds-spec =
     from-raw-requires
     bounds-requires
     of-patch-requires
-    tell-requires
+    hand-out-requires
     same-length
     returns)

@@ -42,8 +42,14 @@ array-read-word-4 c = search needs
 word-requires-4 : tie.Need-word-requires-4
 word-requires-4 c κs = search needs
 
-tell-requires : tie.Need-tell-requires
-tell-requires c κs = search needs
+slice-aggregate-accept : tie.Need-slice-aggregate-accept
+slice-aggregate-accept c = search needs
+
+accept-requires : tie.Need-accept-requires
+accept-requires c κs = search needs
+
+hand-out-requires : tie.Need-hand-out-requires
+hand-out-requires c κs = search needs
 
 same-length : tie.Need-same-length
 same-length c = search needs
@@ -51,12 +57,12 @@ same-length c = search needs
 returns : tie.Need-returns
 returns c =
     let t = c .before .before in
-    let w = t .before .before .before .before in
+    let w = t .before .before .before .before .before .before in
     let u = w .before .before in
     let a = u .before .before .before .before .args in
     let e = ap fourBits (u .uv-window .ensures ∙ ap₂ windowOf (u .before .before .from-raw .ensures) (u .before .eye-of .ensures)) ∙ window-bits (layoutOf (a .layout)) (eyeOf (a .eye)) in
-    handed _ (t .tell .ok) (t .tell .ensures)
-    (ap accepted (four-words (w .word .ensures) (t .before .before .before .word2 .ensures) (t .before .before .word3 .ensures) (t .before .word4 .ensures) ∙ e))
+    handed _ (t .hand-out .ok) (t .hand-out .ensures) (t .before .accept .ensures)
+    (ap accepted (four-words (w .word .ensures) (t .before .before .before .before .before .word2 .ensures) (t .before .before .before .before .word3 .ensures) (t .before .before .before .word4 .ensures) ∙ e))
 
 pub capi-uv-window-spec : {M : Type 1} → statement M
 capi-uv-window-spec =
@@ -73,6 +79,8 @@ capi-uv-window-spec =
     word-requires-3
     array-read-word-4
     word-requires-4
-    tell-requires
+    slice-aggregate-accept
+    accept-requires
+    hand-out-requires
     same-length
     returns)
