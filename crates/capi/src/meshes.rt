@@ -6,7 +6,7 @@ use super::hand_out;
 use super::need;
 use super::of_filled;
 use payload::Measured;
-use payload::MeshAnswer;
+use payload::TablesAnswer;
 use payload::MeshListSize;
 use payload::MeshMeasured;
 use payload::MeshesAnswer;
@@ -97,13 +97,13 @@ fn of_mesh_measured(x: MeshMeasured) -> Reply
     }
 }
 
-fn of_tables(x: MeshAnswer) -> Reply
+fn of_tables(x: TablesAnswer) -> Reply
     ensures { λ r. ⌜ Says r (mapped tableWords (tablesSays x)) ⌝ }
 {
     match x {
-        MeshAnswer::Tables(n) => accept(&table_words(n)),
-        MeshAnswer::Needs(n) => need(&table_words(n)),
-        MeshAnswer::Declined(k) => decline(k),
+        TablesAnswer::Tables(n) => accept(&table_words(n)),
+        TablesAnswer::Needs(n) => need(&table_words(n)),
+        TablesAnswer::Declined(k) => decline(k),
     }
 }
 
