@@ -18,6 +18,7 @@ use Rattle.payload.specs.Laws.{MeshesReads, MeshReads, MeshWrites, Table
 use Rattle.payload.specs.WrittenLaws.{EquiWritesInto, CbmpWritesInto, MeshWritesInto}
 use Rattle.payload.specs.ShareLaws.{ShareLaws}
 use Rattle.payload.specs.Refusals.{Refusals}
+use Rattle.payload.specs.NanLaws.{NanLaws}
 use Rattle.payload.specs.CropMarked.{CropMarked}
 use Rattle.payload.specs.SphereMarked.{SphereMarked}
 use Rattle.payload.specs.CubeMarked.{CubeMarked}
@@ -38,6 +39,7 @@ use Rattle.payload.proofs.MeshWriteProofs as writing
 use Rattle.payload.proofs.WrittenProofs as written
 use Rattle.payload.proofs.MeasureLaws as measure
 use Rattle.payload.proofs.RefusalProofs as refusal
+use Rattle.payload.proofs.NanProofs as nan
 
 -- ---- reading and writing, of specs/Laws.antt
 
@@ -80,6 +82,11 @@ mesh-writes-into = written.mesh-writes-into
 
 pub refusals : Refusals
 refusals = refusal.refusals
+
+-- ---- where a float is a number, of specs/NanLaws.antt
+
+pub nan-laws : NanLaws
+nan-laws = nan.nan-laws
 
 -- ---- a cube's padding, of specs/ShareLaws.antt
 

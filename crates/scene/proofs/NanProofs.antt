@@ -11,7 +11,7 @@ use Rattle.payload.specs.Float.{f0, f1, ratio}
 use Rattle.payload.specs.Sphere.{gridUvs, sphereUvs}
 use Rattle.payload.specs.Cube.{cubeFloats}
 use Rattle.payload.specs.NanLaws.{Number}
-use Rattle.payload.proofs.NanProofs.{nan-laws}
+use Rattle.payload.proofs.Theorems.{nan-laws}
 use Rattle.payload.proofs.Theorems.{share-laws}
 use Rattle.scene.specs.Scene.{equi, cbmp, Given, GridLimits, CubeLimits, Call}
 use Rattle.scene.specs.Laws.{InLimits, FittingReading, drawn}
