@@ -185,12 +185,6 @@ module _ (s : List ℕ) (w limit n p : ℕ) (prior : List ℕ) where
     pub run-said : (u : ℕ) (r : Verdict (Unit {0})) → u ≡ w → r ≡ judged (readRun s u limit n p prior) → r ≡ Said
     run-said u r e k = k ∙ ap (λ (x : ℕ). judged (readRun s x limit n p prior)) e ∙ sym (limited-yes s (judged (readRun s w limit n p prior)) l)
 
-    pub run-empty : n ≡ 0 → accepted tt ≡ Said
-    run-empty e = sym (limited-yes s (judged (readRun s w limit n p prior)) l ∙ field-none s w limit n p prior (omega arith))
-
-    pub run-past : 0 < n → 8 * length s < p → declined 3 ≡ Said
-    run-past o h = sym (limited-yes s (judged (readRun s w limit n p prior)) l ∙ field-short s w limit n p prior o (omega arith))
-
 -- a limit in 16 bits asks for at most 17 bits
 pub width-most : (limit : ℕ) → limit < 65536 → widthOf limit ≤ 17
 width-most limit h = width-least limit 17 (omega arith)

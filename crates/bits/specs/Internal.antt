@@ -1,13 +1,13 @@
 -- What the contracts of private functions cite. No promise of a public call leans on these.
 use Prim.Native.Nat.{ℕ, _+_, _*_, _≤_, _<_}
 use mathlib.Core.Path.{_≡_}
-use mathlib.Core.Bool.{Bool, _&&_}
+use mathlib.Core.Bool.{Bool, _&&_, cond}
 use mathlib.Core.List.{List, [], _∷_}
 use lib.Dec.{leb, ltb}
 use lib.ListN.{length}
 use Rattle.bits.specs.Field.{field}
 use Rattle.bits.specs.Number.{steppedTo}
-use Rattle.bits.specs.Run.{low16}
+use Rattle.bits.specs.Run.{zeros, low16}
 use Rattle.bits.specs.declared.fields.runs.Fields.{Fields}
 use Rattle.bits.specs.declared.fields.runs.Five.{Five}
 use Rattle.bits.specs.declared.fields.runs.Moved.{Moved}
@@ -21,6 +21,17 @@ pub record Inside (s : List ℕ) (p n : ℕ) : Type 0 where
 -- five running numbers, in the order in which their fields come
 abbrev pub five : Five → List ℕ
 five v = v .a ∷ v .b ∷ v .c ∷ v .d ∷ v .e ∷ []
+
+-- the running numbers, in the order in which their fields come: the first of the five alone, or all; those behind the
+-- first; and all of them at their start
+abbrev pub others : Bool → Five → List ℕ
+others alone v = cond alone [] (v .b ∷ v .c ∷ v .d ∷ v .e ∷ [])
+
+abbrev pub turns : Bool → Five → List ℕ
+turns alone v = v .a ∷ others alone v
+
+abbrev pub atStart : Bool → List ℕ
+atStart alone = 0 ∷ cond alone [] (zeros 4)
 
 -- the five fields of width w from bit p on
 pub record FieldsAt (s : List ℕ) (w p : ℕ) (f : Fields) : Type 0 where

@@ -1,14 +1,13 @@
 // Runs: delta fields of one width, one after the other, each of which takes a running number to the next. One pass
-// judges a run, and a
-// later one hands its numbers out. Whether all fields are there is tested once; then two of them come out of one
-// window.
+// judges a run, and a later one hands its numbers out. Whether all fields are there is tested once; then two of them
+// come out of one window.
 use super::one_inside;
 use super::one_known;
 use super::two_inside;
 use crate::numbers::bit_width;
 use crate::numbers::stepped;
 ghost use mathlib.Core.Path.{_≡_};
-ghost use mathlib.Core.List.{[], _∷_};
+ghost use mathlib.Core.List.{[], _∷_, _++_};
 ghost use Prim.Native.Nat.{_+_, _*_, _%_, _≤_};
 ghost use lib.ListN.{length};
 ghost use lib.Seq.{sets};
@@ -16,11 +15,10 @@ ghost use Rattle.bits.specs.Verdict.{limited};
 ghost use Rattle.bits.specs.Number.{widthOf};
 ghost use Rattle.bits.specs.Run.{zeros, readRun, judged, checkSays, low16, summed, runThere, runFilled};
 ghost use Rattle.bits.specs.Run.{fivesThere, fivesFilled};
-ghost use Rattle.bits.specs.Internal.{Inside, five, FieldsAt, MovedBy, allBelow, fiveLow};
+ghost use Rattle.bits.specs.Internal.{Inside, five, others, turns, atStart, FieldsAt, MovedBy, allBelow, fiveLow};
 
 // Where the first field stands, what the running numbers stay below, and how many fields there are, or how many fives
-// of fields.
-// A field is as wide as `bit_width` of the limit.
+// of fields. A field is as wide as `bit_width` of the limit.
 pub struct Run {
     pub bit: usize,
     pub limit: u16,
@@ -40,34 +38,82 @@ fn low_half(x: u64) -> u16
     (x % 65_536) as u16
 }
 
-// ---- one running number
+// ---- field by field, wherever the fields stand
 
-// A run from any running number on, field by field.
-fn check_each(s: &[u8], run: Run, width: u32, from: u16) -> RunCheck
-    requires { ⌜ (length (now s) ≤ 67108864) × (run .bit ≤ 8 * length (now s)) × (width ≤ 17) ⌝ }
+// Five running numbers, in the order in which their fields come.
+struct Five {
+    a: u16,
+    b: u16,
+    c: u16,
+    d: u16,
+    e: u16,
+}
+
+// The number that has moved waits at the back: alone, or behind the other four.
+fn turned(v: Five, alone: bool, number: u16) -> Five
+    ensures { λ r. ⌜ turns alone r ≡ others alone v ++ (number ∷ []) ⌝ }
+{
+    if alone {
+        return Five {
+            a: number,
+            b: 0,
+            c: 0,
+            d: 0,
+            e: 0,
+        };
+    }
+    Five {
+        a: v.b,
+        b: v.c,
+        c: v.d,
+        d: v.e,
+        e: number,
+    }
+}
+
+// One running number over so many fields, or five, which take turns.
+fn check_turns(
+    s: &[u8],
+    start: usize,
+    limit: u16,
+    count: usize,
+    width: u32,
+    alone: bool,
+) -> RunCheck
+    requires { ⌜ (length (now s) ≤ 67108864) × (width ≤ 17) ⌝ }
     ensures answer { λ r. ⌜ checkSays r
-        ≡ judged (readRun (now (s .entry)) width (run .limit) (run .count) (run .bit) (from ∷ [])) ⌝ }
+        ≡ judged (readRun (now (s .entry)) width limit count start (atStart alone)) ⌝ }
 {
     let end = s.len() * 8;
     let size = width as usize;
-    let limit = run.limit as u64;
-    let mut bit = run.bit;
-    let mut last = from;
-    let mut left = run.count;
+    let mut bit = start;
+    let mut v = Five {
+        a: 0,
+        b: 0,
+        c: 0,
+        d: 0,
+        e: 0,
+    };
+    let mut left = count;
     while 0 < left {
+        if end < bit {
+            return RunCheck::Declined(3);
+        }
         if end - bit < size {
             return RunCheck::Declined(3);
         }
-        let number = stepped(last as u32, one_known(s, bit, width));
-        if limit <= number {
+        let number = stepped(v.a as u32, one_known(s, bit, width));
+        if limit as u64 <= number {
             return RunCheck::Declined(8);
         }
-        last = number as u16;
+        v = turned(v, alone, number as u16);
         bit += size;
         left -= 1;
     }
     RunCheck::Good
 }
+
+// ---- one running number
 
 // A run of whole pairs of fields, which are all there, from any running number on.
 fn check_pairs(s: &[u8], run: Run, width: u32, from: u16) -> RunCheck
@@ -158,25 +204,10 @@ pub fn check_run(s: &[u8], run: Run) -> RunCheck
     if run_there(s, run.bit, width, run.count as usize) {
         return check_inside(s, run, width);
     }
-    if run.count == 0 {
-        return RunCheck::Good;
-    }
-    if s.len() * 8 < run.bit {
-        return RunCheck::Declined(3);
-    }
-    check_each(s, run, width, 0)
+    check_turns(s, run.bit, run.limit, run.count as usize, width, true)
 }
 
 // ---- five running numbers, which take turns
-
-// Five running numbers, in the order in which their fields come.
-struct Five {
-    a: u16,
-    b: u16,
-    c: u16,
-    d: u16,
-    e: u16,
-}
 
 // Where five fields take them: below 0 they stand far above every limit.
 struct Moved {
@@ -245,39 +276,6 @@ fn low_five(v: Moved) -> Five
     }
 }
 
-// Five running numbers over so many fields, field by field: each moves when its turn comes.
-fn check_turns(s: &[u8], bit: usize, limit: u16, count: usize, width: u32) -> RunCheck
-    requires { ⌜ (length (now s) ≤ 67108864) × (bit ≤ 8 * length (now s)) × (width ≤ 17) ⌝ }
-    ensures answer { λ r. ⌜ checkSays r ≡ judged (readRun (now (s .entry)) width limit count bit (zeros 5)) ⌝ }
-{
-    let end = s.len() * 8;
-    let size = width as usize;
-    let mut at = bit;
-    let mut a: u16 = 0;
-    let mut b: u16 = 0;
-    let mut c: u16 = 0;
-    let mut d: u16 = 0;
-    let mut e: u16 = 0;
-    let mut left = count;
-    while 0 < left {
-        if end - at < size {
-            return RunCheck::Declined(3);
-        }
-        let number = stepped(a as u32, one_known(s, at, width));
-        if limit as u64 <= number {
-            return RunCheck::Declined(8);
-        }
-        a = b;
-        b = c;
-        c = d;
-        d = e;
-        e = number as u16;
-        at += size;
-        left -= 1;
-    }
-    RunCheck::Good
-}
-
 // Five running numbers over fives of fields that are all there.
 fn check_all_fives(s: &[u8], run: Run, width: u32) -> RunCheck
     requires { ⌜ Inside (now s) (run .bit) (run .count * (5 * width)) ⌝ }
@@ -322,13 +320,7 @@ pub fn check_fives(s: &[u8], run: Run) -> RunCheck
     if run_there(s, run.bit, width, count) {
         return check_all_fives(s, run, width);
     }
-    if count == 0 {
-        return RunCheck::Good;
-    }
-    if s.len() * 8 < run.bit {
-        return RunCheck::Declined(3);
-    }
-    check_turns(s, run.bit, run.limit, count, width)
+    check_turns(s, run.bit, run.limit, count, width, false)
 }
 
 // ---- the numbers of runs that were judged before

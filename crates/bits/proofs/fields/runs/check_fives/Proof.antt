@@ -6,7 +6,7 @@ use lib.ListN.{length}
 use Rattle.bits.specs.Number.{widthOf}
 use Rattle.bits.specs.Run.{zeros}
 use Rattle.bits.proofs.ThereLaws.{there-inside}
-use Rattle.bits.proofs.JudgedLaws.{run-too-long, run-said, run-empty, run-past, width-most, fives-bits}
+use Rattle.bits.proofs.JudgedLaws.{run-too-long, run-said, width-most, fives-bits}
 use borrow.Author.Needs.{needs}
 use Rattle.bits.proofs.fields.runs.check_fives.Statement.{statement}
 use Rattle.bits.proofs.fields.runs.check_fives.Tie as tie
@@ -41,25 +41,16 @@ returns-2 c =
     let a = b .before .before .before .before .args in
     run-said (a .s .now) (widthOf (a .run .limit)) (a .run .limit) (5 * a .run .count) (a .run .bit) (zeros 5) (omega arith) _ _ (b .bit-width .ensures) (c .check-all-fives .ensures)
 
-returns-3 : tie.Need-returns-3
-returns-3 c = let a = c .before .before .before .before .before .before .before .before .args in run-empty (a .s .now) (widthOf (a .run .limit)) (a .run .limit) (5 * a .run .count) (a .run .bit) (zeros 5) (omega arith) (omega (arith, c .if3 .taken))
-
-mul-if4 : tie.Need-mul-if4
-mul-if4 c = search needs
-
-returns-4 : tie.Need-returns-4
-returns-4 c = let a = c .before .before .before .before .before .before .before .before .before .before .args in run-past (a .s .now) (widthOf (a .run .limit)) (a .run .limit) (5 * a .run .count) (a .run .bit) (zeros 5) (omega arith) (omega arith) (omega arith)
-
 check-turns-requires : tie.Need-check-turns-requires
 check-turns-requires c κs =
-    let b = c .before .before .before .before .before .before in
+    let b = c .before .before .before in
     let a = b .before .before .before .before .args in
     let w = width-most (a .run .limit) (omega arith) in
-    (omega arith, omega arith, omega (arith, b .bit-width .ensures))
+    (omega arith, omega (arith, b .bit-width .ensures))
 
-returns-5 : tie.Need-returns-5
-returns-5 c =
-    let b = c .before .before .before .before .before .before .before in
+returns-3 : tie.Need-returns-3
+returns-3 c =
+    let b = c .before .before .before .before in
     let a = b .before .before .before .before .args in
     run-said (a .s .now) (widthOf (a .run .limit)) (a .run .limit) (5 * a .run .count) (a .run .bit) (zeros 5) (omega arith) _ _ (b .bit-width .ensures) (c .check-turns .ensures)
 
@@ -75,8 +66,5 @@ check-fives-spec =
     run-there-requires
     check-all-fives-requires
     returns-2
-    returns-3
-    mul-if4
-    returns-4
     check-turns-requires
-    returns-5)
+    returns-3)
