@@ -51,7 +51,7 @@ impl Answer {
     }
 
     pub fn needs(length: usize) -> Answer {
-        Answer::new(probe_sys::NEEDS, &[length as u64])
+        Answer::new(hoodsorrel::raw::NEEDS, &[length as u64])
     }
 
     pub fn needs_each(lengths: &[usize]) -> Answer {
@@ -59,11 +59,11 @@ impl Answer {
         for (word, length) in words.iter_mut().zip(lengths) {
             *word = *length as u64;
         }
-        Answer::new(probe_sys::NEEDS, &words[..lengths.len()])
+        Answer::new(hoodsorrel::raw::NEEDS, &words[..lengths.len()])
     }
 
     pub fn not_made() -> Answer {
-        Answer::new(probe_sys::NOT_MADE, &[])
+        Answer::new(hoodsorrel::raw::NOT_MADE, &[])
     }
 
     pub fn code(&self) -> i64 {

@@ -11,7 +11,7 @@ pub fn run(options: &Options) -> Vec<Tally> {
         options,
         "bit_width",
         "against mesh::bit_width",
-        probe_sys::bit_width,
+        hoodsorrel::raw::bit_width,
         due,
     )
 }

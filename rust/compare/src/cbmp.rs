@@ -83,7 +83,7 @@ fn lengths(tally: &mut Tally, beyond: &mut Tally, random: &mut Random) {
         beyond,
         &payloads,
         |payload| check(tally, payload),
-        probe_sys::parse_cbmp,
+        hoodsorrel::raw::parse_cbmp,
     );
 }
 
@@ -114,7 +114,7 @@ pub fn due(payload: &[u8]) -> Answer {
 fn check(tally: &mut Tally, payload: &[u8]) {
     tally.call(
         &due(payload),
-        |words| probe_sys::parse_cbmp(payload, words),
+        |words| hoodsorrel::raw::parse_cbmp(payload, words),
         || shown(payload),
     );
 }
@@ -145,7 +145,7 @@ fn write(tally: &mut Tally, random: &mut Random, value: u32, lent: usize) {
         tally,
         write_due(value, &before),
         &before,
-        |out, words| probe_sys::write_cbmp(value, out, words),
+        |out, words| hoodsorrel::raw::write_cbmp(value, out, words),
         padding,
         || (value, before.clone()),
     );

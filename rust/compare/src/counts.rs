@@ -63,12 +63,12 @@ impl Counts {
     fn sphere(&mut self, rings: u32, sectors: u32) {
         self.check(
             vertices_due(rings, sectors),
-            |words| probe_sys::vertex_count(rings, sectors, words),
+            |words| hoodsorrel::raw::vertex_count(rings, sectors, words),
             ("vertex_count", rings, sectors),
         );
         self.check(
             indices_due(rings, sectors),
-            |words| probe_sys::index_count(rings, sectors, words),
+            |words| hoodsorrel::raw::index_count(rings, sectors, words),
             ("index_count", rings, sectors),
         );
     }
@@ -76,12 +76,12 @@ impl Counts {
     fn cube(&mut self, cells: u32) {
         self.check(
             cube_vertices_due(cells),
-            |words| probe_sys::cubemap_vertex_count(cells, words),
+            |words| hoodsorrel::raw::cubemap_vertex_count(cells, words),
             ("cubemap_vertex_count", cells),
         );
         self.check(
             cube_indices_due(cells),
-            |words| probe_sys::cubemap_index_count(cells, words),
+            |words| hoodsorrel::raw::cubemap_index_count(cells, words),
             ("cubemap_index_count", cells),
         );
     }

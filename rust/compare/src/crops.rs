@@ -1,6 +1,6 @@
 //! Whether a crop is usable.
 
-use probe_sys::Crop;
+use hoodsorrel::raw::Crop;
 use reference::pano::Bounds;
 
 use crate::options::Options;
@@ -91,6 +91,6 @@ pub fn due(crop: Crop) -> i64 {
 }
 
 fn check(tally: &mut Tally, crop: Crop) {
-    let ours = probe_sys::is_usable(crop);
+    let ours = hoodsorrel::raw::is_usable(crop);
     tally.check(ours, due(crop), || crop.map(f32::to_bits));
 }

@@ -85,7 +85,7 @@ fn make_indices(tally: &mut Tally, cells: u32) {
             tally,
             &due,
             &after,
-            |out, words| probe_sys::cubemap_indices(cells, out, words),
+            |out, words| hoodsorrel::raw::cubemap_indices(cells, out, words),
             || (cells, lent),
         );
     }
@@ -197,7 +197,7 @@ fn mesh_on(tally: &mut Tally, cells: u32, radius: f32, share: f32, lent: usize) 
         tally,
         &due,
         &after,
-        |out, words| probe_sys::cubemap_mesh(cells, radius, share, out, words),
+        |out, words| hoodsorrel::raw::cubemap_mesh(cells, radius, share, out, words),
         || (cells, radius.to_bits(), share.to_bits(), lent),
     );
 }
@@ -218,14 +218,14 @@ fn beyond(options: &Options, random: &mut Random) -> Tally {
             &mut tally,
             &due,
             &before(lent),
-            |out, words| probe_sys::cubemap_indices(cells, out, words),
+            |out, words| hoodsorrel::raw::cubemap_indices(cells, out, words),
             || (cells, lent),
         );
         fill::check(
             &mut tally,
             &due,
             &before(lent),
-            |out, words| probe_sys::cubemap_mesh(cells, radius, share, out, words),
+            |out, words| hoodsorrel::raw::cubemap_mesh(cells, radius, share, out, words),
             || (cells, radius.to_bits(), share.to_bits(), lent),
         );
     }

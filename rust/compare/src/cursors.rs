@@ -43,7 +43,7 @@ pub fn new_due() -> Answer {
 }
 
 fn new(tally: &mut Tally) {
-    tally.call(&new_due(), probe_sys::byte_new, || "new");
+    tally.call(&new_due(), hoodsorrel::raw::byte_new, || "new");
 }
 
 /// A reader at any place, also past the end.
@@ -106,7 +106,7 @@ pub fn skip_due(data: &[u8], at: usize, n: usize) -> Answer {
 fn position(tally: &mut Tally, data: &[u8], at: usize) {
     tally.call(
         &position_due(data, at),
-        |words| probe_sys::position(at, words),
+        |words| hoodsorrel::raw::position(at, words),
         || ("position", at),
     );
 }
@@ -114,7 +114,7 @@ fn position(tally: &mut Tally, data: &[u8], at: usize) {
 fn remaining(tally: &mut Tally, data: &[u8], at: usize) {
     tally.call(
         &remaining_due(data, at),
-        |words| probe_sys::remaining(data, at, words),
+        |words| hoodsorrel::raw::remaining(data, at, words),
         || ("remaining", data.to_vec(), at),
     );
 }
@@ -122,7 +122,7 @@ fn remaining(tally: &mut Tally, data: &[u8], at: usize) {
 fn byte(tally: &mut Tally, data: &[u8], at: usize) {
     tally.call(
         &byte_due(data, at),
-        |words| probe_sys::u8(data, at, words),
+        |words| hoodsorrel::raw::u8(data, at, words),
         || ("u8", data.to_vec(), at),
     );
 }
@@ -130,7 +130,7 @@ fn byte(tally: &mut Tally, data: &[u8], at: usize) {
 fn word(tally: &mut Tally, data: &[u8], at: usize) {
     tally.call(
         &word_due(data, at),
-        |words| probe_sys::u32(data, at, words),
+        |words| hoodsorrel::raw::u32(data, at, words),
         || ("u32", data.to_vec(), at),
     );
 }
@@ -138,7 +138,7 @@ fn word(tally: &mut Tally, data: &[u8], at: usize) {
 fn seek(tally: &mut Tally, data: &[u8], at: usize, to: usize) {
     tally.call(
         &seek_due(data, at, to),
-        |words| probe_sys::seek(data, at, to, words),
+        |words| hoodsorrel::raw::seek(data, at, to, words),
         || ("seek", data.to_vec(), at, to),
     );
 }
@@ -146,7 +146,7 @@ fn seek(tally: &mut Tally, data: &[u8], at: usize, to: usize) {
 fn skip(tally: &mut Tally, data: &[u8], at: usize, n: usize) {
     tally.call(
         &skip_due(data, at, n),
-        |words| probe_sys::skip(data, at, n, words),
+        |words| hoodsorrel::raw::skip(data, at, n, words),
         || ("skip", data.to_vec(), at, n),
     );
 }

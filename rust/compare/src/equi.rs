@@ -98,7 +98,7 @@ fn lengths(tally: &mut Tally, beyond: &mut Tally, random: &mut Random) {
         beyond,
         &payloads,
         |payload| check(tally, payload),
-        probe_sys::parse_equi,
+        hoodsorrel::raw::parse_equi,
     );
 }
 
@@ -143,7 +143,7 @@ pub fn due(payload: &[u8]) -> Answer {
 fn check(tally: &mut Tally, payload: &[u8]) {
     tally.call(
         &due(payload),
-        |words| probe_sys::parse_equi(payload, words),
+        |words| hoodsorrel::raw::parse_equi(payload, words),
         || shown(payload),
     );
 }
@@ -179,7 +179,7 @@ fn write(tally: &mut Tally, random: &mut Random, fields: Fields, lent: usize) {
         tally,
         write_due(fields, &before),
         &before,
-        |out, words| probe_sys::write_equi(fields, out, words),
+        |out, words| hoodsorrel::raw::write_equi(fields, out, words),
         |out| mesh::parse_equi(out).map(bits),
         || (fields, before.clone()),
     );

@@ -72,7 +72,7 @@ fn read(tally: &mut Tally, data: &[u8], bit: usize, width: u32) {
 fn ours(tally: &mut Tally, due: &Answer, data: &[u8], bit: usize, width: u32) {
     tally.call(
         due,
-        |words| probe_sys::read(data, bit, width, words),
+        |words| hoodsorrel::raw::read(data, bit, width, words),
         || ("read", data.to_vec(), bit, width),
     );
 }
@@ -88,7 +88,7 @@ pub fn new_due(byte: usize) -> Answer {
 fn new(tally: &mut Tally, byte: usize) {
     tally.call(
         &new_due(byte),
-        |words| probe_sys::bit_new(byte, words),
+        |words| hoodsorrel::raw::bit_new(byte, words),
         || ("new", byte),
     );
 }
@@ -106,7 +106,7 @@ pub fn align_due(bit: usize) -> Answer {
 fn align(tally: &mut Tally, bit: usize) {
     tally.call(
         &align_due(bit),
-        |words| probe_sys::align(bit, words),
+        |words| hoodsorrel::raw::align(bit, words),
         || ("align_to_byte", bit),
     );
 }

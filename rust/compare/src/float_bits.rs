@@ -25,5 +25,5 @@ pub fn due(x: f32) -> i64 {
 
 fn check(tally: &mut Tally, bits: u32) {
     let x = f32::from_bits(bits);
-    tally.check(probe_sys::float_bits(x), due(x), || bits);
+    tally.check(hoodsorrel::raw::float_bits(x), due(x), || bits);
 }

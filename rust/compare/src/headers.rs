@@ -89,7 +89,7 @@ pub fn due(data: &[u8], at: usize) -> Answer {
 fn check(tally: &mut Tally, data: &[u8], at: usize) {
     tally.call(
         &due(data, at),
-        |words| probe_sys::header(data, at, words),
+        |words| hoodsorrel::raw::header(data, at, words),
         || (data.to_vec(), at),
     );
 }
@@ -117,7 +117,7 @@ pub fn list(random: &mut Random) -> Vec<u8> {
 fn ends_well(data: &[u8]) -> bool {
     let mut words = [0; 3];
     for _ in 0..=data.len() {
-        match probe_sys::header(data, words[2] as usize, &mut words) {
+        match hoodsorrel::raw::header(data, words[2] as usize, &mut words) {
             3 => {}
             code => return code == 0,
         }

@@ -183,7 +183,7 @@ fn parse_on(tally: &mut Tally, body: &[u8], due: &Due, lent: [usize; 4]) {
     let mut submeshes = Table::new("submesh word", &after.submeshes, lent[2]);
     let mut points = Table::new("point", &after.points, lent[3]);
     let replies = tally.ask_amply(&answer, |words| {
-        probe_sys::parse_mesh(
+        hoodsorrel::raw::parse_mesh(
             body,
             pool.lent(),
             coordinates.lent(),

@@ -269,7 +269,7 @@ fn write_on(tally: &mut Tally, tables: &Tables, due: &Due, faults: &[&str], lent
 }
 
 fn call(tables: &Tables, out: &mut [u8], words: &mut [u64]) -> i64 {
-    probe_sys::write_mesh(
+    hoodsorrel::raw::write_mesh(
         &tables.pool,
         &tables.coordinates,
         &tables.submeshes,
@@ -282,7 +282,7 @@ fn call(tables: &Tables, out: &mut [u8], words: &mut [u64]) -> i64 {
 /// Our box, in a buffer of the length that we ask for.
 fn written(tables: &Tables) -> Option<Vec<u8>> {
     let mut words = [0];
-    if call(tables, &mut [], &mut words) != probe_sys::NEEDS {
+    if call(tables, &mut [], &mut words) != hoodsorrel::raw::NEEDS {
         return None;
     }
     let mut out = vec![0xFF; words[0] as usize];
@@ -292,7 +292,7 @@ fn written(tables: &Tables) -> Option<Vec<u8>> {
 /// Our tables, in buffers of the lengths that we ask for.
 fn read(body: &[u8]) -> Option<Tables> {
     let mut needed = [0; 4];
-    if parse(body, &mut Tables::default(), &mut needed) != probe_sys::NEEDS {
+    if parse(body, &mut Tables::default(), &mut needed) != hoodsorrel::raw::NEEDS {
         return None;
     }
     let mut tables = Tables::zeros(needed.map(|n| n as usize));
@@ -300,7 +300,7 @@ fn read(body: &[u8]) -> Option<Tables> {
 }
 
 fn parse(body: &[u8], tables: &mut Tables, words: &mut [u64]) -> i64 {
-    probe_sys::parse_mesh(
+    hoodsorrel::raw::parse_mesh(
         body,
         &mut tables.pool,
         &mut tables.coordinates,

@@ -211,7 +211,7 @@ fn parse_on(tally: &mut Tally, payload: &[u8], due: &Due, lent: [usize; 3]) {
     let mut floats = Table::new("float", &after.floats, lent[1]);
     let mut records = Table::new("record word", &after.records, lent[2]);
     let replies = tally.ask_amply(&answer, |words| {
-        probe_sys::parse_meshes(
+        hoodsorrel::raw::parse_meshes(
             payload,
             numbers.lent(),
             floats.lent(),
@@ -239,7 +239,9 @@ pub fn measured(due: &Due) -> Answer {
 
 fn measure(tally: &mut Tally, payload: &[u8], due: &Due) {
     let answer = measured(due);
-    let replies = tally.ask_amply(&answer, |words| probe_sys::measure_meshes(payload, words));
+    let replies = tally.ask_amply(&answer, |words| {
+        hoodsorrel::raw::measure_meshes(payload, words)
+    });
     tables::check(tally, replies, &[], || shown(payload));
 }
 
@@ -266,7 +268,7 @@ fn records_on(tally: &mut Tally, payload: &[u8], due: &Due, lent: usize) {
     let (answer, after) = recorded(due, lent);
     let mut records = Table::new("record word", after, lent);
     let replies = tally.ask_amply(&answer, |words| {
-        probe_sys::mesh_records(payload, records.lent(), words)
+        hoodsorrel::raw::mesh_records(payload, records.lent(), words)
     });
     tables::check(tally, replies, &[&records], || (lent, shown(payload)));
 }

@@ -9,7 +9,7 @@ pub fn run(options: &Options) -> Vec<Tally> {
         options,
         "nearest",
         "bits against `v as f32`",
-        probe_sys::nearest,
+        hoodsorrel::raw::nearest,
         due,
     )
 }

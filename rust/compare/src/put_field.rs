@@ -87,7 +87,7 @@ fn check(tally: &mut Tally, before: &[u8], bit: usize, width: u32, value: u32) {
         tally,
         due(before, bit, width, value),
         before,
-        |out, words| probe_sys::put_field(out, bit, width, value, words),
+        |out, words| hoodsorrel::raw::put_field(out, bit, width, value, words),
         |out| read_back(out, bit, width),
         || (before.to_vec(), bit, width, value),
     );

@@ -53,7 +53,7 @@ fn check(tally: &mut Tally, before: &[u8], at: usize, x: u32) {
         tally,
         due(before, at, x),
         before,
-        |out, words| probe_sys::put_word(out, at, x, words),
+        |out, words| hoodsorrel::raw::put_word(out, at, x, words),
         |out| read_back(out, at),
         || (before.to_vec(), at, x),
     );

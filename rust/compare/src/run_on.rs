@@ -69,6 +69,6 @@ pub fn due(last: u32, field: u32, limit: u32) -> i64 {
 }
 
 fn check(tally: &mut Tally, last: u32, field: u32, limit: u32) {
-    let ours = probe_sys::run_on(last, field, limit);
+    let ours = hoodsorrel::raw::run_on(last, field, limit);
     tally.check(ours, due(last, field, limit), || (last, field, limit));
 }

@@ -9,7 +9,7 @@ pub fn run(options: &Options) -> Vec<Tally> {
         options,
         "scale",
         "bits against `scale` of mesh::parse_equi",
-        probe_sys::scale,
+        hoodsorrel::raw::scale,
         due,
     )
 }

@@ -75,7 +75,7 @@ impl Calls {
             lent[2],
         );
         let replies = self.tally.ask(&answer, |words| {
-            probe_sys::scene(
+            hoodsorrel::raw::scene(
                 call.kind,
                 call.payload,
                 call.given,

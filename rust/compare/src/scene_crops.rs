@@ -1,6 +1,6 @@
 //! Scene calls of kind 0.
 
-use probe_sys::Given;
+use hoodsorrel::Given;
 
 use crate::equi::{payload, random_fields, Fields};
 use crate::options::Options;

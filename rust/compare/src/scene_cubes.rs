@@ -1,6 +1,6 @@
 //! Scene calls of kind 1.
 
-use probe_sys::Given;
+use hoodsorrel::Given;
 
 use crate::cbmp::payload;
 use crate::options::Options;

@@ -1,7 +1,7 @@
 //! Scene calls with several faults at once. What the model says of them is compared with the first
 //! of the faults in document 01's order, which needs no look at the call.
 
-use probe_sys::Given;
+use hoodsorrel::Given;
 
 use crate::cbmp;
 use crate::equi::{self, Fields};

@@ -1,7 +1,7 @@
 //! What a scene call has to answer and to draw: the limits and the order of document 01 around
 //! the Rust's readers and makers.
 
-use probe_sys::Given;
+use hoodsorrel::Given;
 use reference::mesh;
 use reference::pano::{self, Bounds, VERTEX_FLOATS};
 

@@ -1,6 +1,6 @@
 //! Numbers for scene calls: around every limit, and for the kinds that do not look at them.
 
-use probe_sys::Given;
+use hoodsorrel::Given;
 
 use crate::random::Random;
 

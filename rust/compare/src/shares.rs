@@ -47,7 +47,7 @@ pub fn due(padding: u32, face: u32) -> f32 {
 
 fn check_share(tally: &mut Tally, padding: u32, face: u32) {
     let due = due(padding, face);
-    let ours = probe_sys::padding_share(padding, face);
+    let ours = hoodsorrel::raw::padding_share(padding, face);
     let is_nan = u32::try_from(ours).is_ok_and(|bits| f32::from_bits(bits).is_nan());
     let due = if is_nan && due.is_nan() {
         ours
@@ -63,7 +63,7 @@ fn halves(options: &Options) -> Tally {
     let mut tally = Tally::new(options, "padding_share halves", what);
     for padding in 0..=MOST_PADDING {
         let mut check = |face: u32| {
-            let share = f32::from_bits(probe_sys::padding_share(padding, face) as u32);
+            let share = f32::from_bits(hoodsorrel::raw::padding_share(padding, face) as u32);
             tally.check(share < 0.5, 2 * padding < face, || (padding, face));
         };
         if options.long {

@@ -2,7 +2,7 @@
 
 use std::ops::RangeInclusive;
 
-use probe_sys::Crop;
+use hoodsorrel::raw::Crop;
 use reference::pano::{self, VERTEX_FLOATS};
 
 use crate::answer::Answer;
@@ -177,7 +177,7 @@ impl Sphere {
                 &mut self.indices,
                 &due,
                 &after,
-                |out, words| probe_sys::sphere_indices(rings, sectors, out, words),
+                |out, words| hoodsorrel::raw::sphere_indices(rings, sectors, out, words),
                 || (rings, sectors, lent),
             );
         }
@@ -191,7 +191,9 @@ impl Sphere {
                 &mut self.bounded,
                 &due,
                 &after,
-                |out, words| probe_sys::sphere_indices_bounded(rings, sectors, crop, out, words),
+                |out, words| {
+                    hoodsorrel::raw::sphere_indices_bounded(rings, sectors, crop, out, words)
+                },
                 || (rings, sectors, crop.map(f32::to_bits), lent),
             );
         }
@@ -207,7 +209,7 @@ impl Sphere {
                 &mut self.uvs,
                 &due,
                 &after,
-                |out, words| probe_sys::sphere_uvs(rings, sectors, out, words),
+                |out, words| hoodsorrel::raw::sphere_uvs(rings, sectors, out, words),
                 || (rings, sectors, lent),
             );
         }
@@ -223,14 +225,14 @@ impl Sphere {
                 tally,
                 &due,
                 &numbers,
-                |out, words| probe_sys::sphere_indices(n, n, out, words),
+                |out, words| hoodsorrel::raw::sphere_indices(n, n, out, words),
                 input,
             );
             fill::check(
                 tally,
                 &due,
                 &floats,
-                |out, words| probe_sys::sphere_uvs(n, n, out, words),
+                |out, words| hoodsorrel::raw::sphere_uvs(n, n, out, words),
                 input,
             );
             for crop in USABLE.into_iter().chain(UNUSABLE) {
@@ -238,7 +240,7 @@ impl Sphere {
                     tally,
                     &due,
                     &numbers,
-                    |out, words| probe_sys::sphere_indices_bounded(n, n, crop, out, words),
+                    |out, words| hoodsorrel::raw::sphere_indices_bounded(n, n, crop, out, words),
                     input,
                 );
             }

@@ -32,7 +32,7 @@ pub fn due(last: u32, field: u32) -> Answer {
 fn check(tally: &mut Tally, last: u32, field: u32) {
     tally.call(
         &due(last, field),
-        |words| probe_sys::stepped(last, field, words),
+        |words| hoodsorrel::raw::stepped(last, field, words),
         || (last, field),
     );
 }

@@ -54,7 +54,7 @@ fn due(data: &[u8], width: u32, count: u64) -> Option<[u64; 1]> {
 fn check(tally: &mut Tally, data: &[u8], width: u32, count: u64) {
     tally.call(
         &Answer::words_or(due(data, width, count), SHORT),
-        |words| probe_sys::sum_fields(data, width, count, words),
+        |words| hoodsorrel::raw::sum_fields(data, width, count, words),
         || (data.to_vec(), width, count),
     );
 }
@@ -62,7 +62,7 @@ fn check(tally: &mut Tally, data: &[u8], width: u32, count: u64) {
 fn not_made(tally: &mut Tally, data: &[u8], width: u32) {
     tally.call(
         &Answer::not_made(),
-        |words| probe_sys::sum_fields(data, width, 1, words),
+        |words| hoodsorrel::raw::sum_fields(data, width, 1, words),
         || (data.to_vec(), width, 1),
     );
 }

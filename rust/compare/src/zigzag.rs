@@ -11,7 +11,7 @@ pub fn run(options: &Options) -> Vec<Tally> {
         options,
         "zigzag",
         "against mesh::zigzag",
-        probe_sys::zigzag,
+        hoodsorrel::raw::zigzag,
         due,
     )
 }

@@ -1,6 +1,6 @@
 //! The calls of kinds 0 and 1: crops, and their payloads and those of cubes.
 
-use probe_sys::Crop;
+use hoodsorrel::raw::Crop;
 
 use crate::answers::line::{bits, lent, List};
 use crate::answers::thinned;

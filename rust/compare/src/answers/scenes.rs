@@ -1,6 +1,6 @@
 //! Whole scene calls.
 
-use probe_sys::Given;
+use hoodsorrel::Given;
 
 use crate::answers::line::{bits, bounded, lent, made, List, MOST_DRAWN};
 use crate::answers::{lists, one_of};

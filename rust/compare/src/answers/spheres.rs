@@ -1,6 +1,6 @@
 //! The calls on grids of a sphere.
 
-use probe_sys::Crop;
+use hoodsorrel::raw::Crop;
 
 use crate::answers::line::{bits, lent, List, MOST_FLOATS, MOST_NUMBERS};
 use crate::fill::lengths;

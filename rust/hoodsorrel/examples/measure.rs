@@ -4,7 +4,7 @@ use std::env::args;
 use std::fs::read;
 use std::process::ExitCode;
 
-use hoodsorrel_viewer::measure_meshes;
+use hoodsorrel::viewer::measure_meshes;
 
 fn main() -> ExitCode {
     let Some(file) = args().nth(1) else {
@@ -24,7 +24,7 @@ fn main() -> ExitCode {
             ExitCode::SUCCESS
         }
         Err(refusal) => {
-            eprintln!("refused {}: {refusal}", refusal.number());
+            eprintln!("{refusal}");
             ExitCode::FAILURE
         }
     }
