@@ -2,9 +2,9 @@
 
 use std::fmt::{Debug, Display};
 
-use crate::answer::{ask, ask_amply, Answer, Reply};
+use crate::inputs::random::Random;
+use crate::lent::answer::{ask, ask_amply, Answer, Reply};
 use crate::options::Options;
-use crate::random::Random;
 
 const MOST_SHOWN: usize = 3;
 

@@ -2,11 +2,14 @@
 
 use reference::pano::{self, AnaglyphPair, Eye, Projection, StereoLayout};
 
-use crate::answer::Answer;
+use crate::bits::run_on::boundaries;
+use crate::inputs::sweep::{float_sweep, near};
+use crate::lent::answer::Answer;
 use crate::options::Options;
-use crate::run_on::boundaries;
-use crate::sweep::{float_sweep, near};
 use crate::tally::Tally;
+use crate::Subject;
+
+pub const SUBJECTS: &[Subject] = &[("view", run)];
 
 const NAME: &str = "view";
 const DEFAULT_FOV_BITS: u32 = 0x41CE_147B;
@@ -17,7 +20,7 @@ const ROUNDS: u32 = 100;
 /// Where the field of view becomes its largest and its smallest.
 pub const ZOOM_ENDS: [f32; 2] = [0.2576, 2.576];
 
-pub fn run(options: &Options) -> Vec<Tally> {
+fn run(options: &Options) -> Vec<Tally> {
     let what =
         "against pano's from_raw, is_windowed, is_panoramic, bounds, uv_window, anaglyph_mix";
     let mut tally = Tally::new(options, NAME, what);

@@ -4,13 +4,13 @@ use spell::{Mesh, Spelled, Tables};
 
 use crate::answers::line::{bounded, lent, List, MOST_TABLES};
 use crate::answers::{one_of, thinned};
-use crate::mesh::{agrees, parsed, Due};
-use crate::mesh_damage::{damaged, every_bit, every_count, every_stray, stray};
-use crate::mesh_model::parse_mesh;
-use crate::mesh_payloads::{self, m1, sized};
-use crate::meshes::MOST_SUBMESHES;
-use crate::random::Random;
-use crate::tables::{lengths, refused_lengths};
+use crate::inputs::random::Random;
+use crate::lent::tables::{lengths, refused_lengths};
+use crate::mesh::body::{agrees, parsed, Due};
+use crate::mesh::damage::{damaged, every_bit, every_count, every_stray, stray};
+use crate::mesh::lists::MOST_SUBMESHES;
+use crate::mesh::model::parse_mesh;
+use crate::mesh::payloads::{self, m1, sized};
 
 /// Random bodies that are taken as they are.
 const WHOLE: usize = 6;
@@ -57,7 +57,7 @@ pub fn add(list: &mut List, random: &mut Random) {
 
 fn small(random: &mut Random) -> Mesh {
     loop {
-        let mesh = mesh_payloads::mesh(random);
+        let mesh = payloads::mesh(random);
         if spell::body(&mesh).bytes.len() <= LONG {
             return mesh;
         }

@@ -4,14 +4,15 @@ use hoodsorrel::raw::Crop;
 
 use crate::answers::line::{bits, lent, List};
 use crate::answers::thinned;
-use crate::crops::{self, turns};
-use crate::equi::{self, random_fields, Fields};
-use crate::payloads::{cuts, damaged};
-use crate::random::Random;
-use crate::scene_crops::{UNUSABLE, USABLE};
-use crate::scene_numbers::PADDINGS;
-use crate::scene_payloads::dressed;
-use crate::{cbmp, sphere};
+use crate::crops::cbmp;
+use crate::crops::equi::{self, random_fields, Fields};
+use crate::crops::usable::{self, turns};
+use crate::grids::sphere;
+use crate::inputs::payloads::{cuts, damaged};
+use crate::inputs::random::Random;
+use crate::scene::crops::{UNUSABLE, USABLE};
+use crate::scene::numbers::PADDINGS;
+use crate::scene::payloads::dressed;
 
 const RANDOM: usize = 10;
 /// Every so manieth of the cuts in each version is taken.
@@ -70,7 +71,7 @@ fn sides(list: &mut List, random: &mut Random) {
 }
 
 fn usable(list: &mut List, crop: Crop) {
-    list.number("is_usable", &crop.map(bits), crops::due(crop));
+    list.number("is_usable", &crop.map(bits), usable::due(crop));
 }
 
 fn read_crop(list: &mut List, payload: &[u8]) {

@@ -1,9 +1,9 @@
 //! The calls of the bit cursor.
 
 use crate::answers::line::List;
-use crate::buffers::place;
-use crate::fields::{self, NO_PRODUCT};
-use crate::random::Random;
+use crate::bits::fields::{self, NO_PRODUCT};
+use crate::inputs::buffers::place;
+use crate::inputs::random::Random;
 
 const WIDTHS: [u32; 13] = [0, 1, 2, 7, 8, 9, 17, 24, 25, 31, 32, 33, u32::MAX];
 /// Fields of each width.

@@ -3,8 +3,8 @@
 use std::collections::BTreeSet;
 use std::fmt::Write;
 
-use crate::answer::{Answer, MOST_STORED};
 use crate::answers::calls::CALLS;
+use crate::lent::answer::{Answer, MOST_STORED};
 
 /// So many bytes of data, and so many items of each buffer, a line has at most.
 const MOST_DATA: usize = 2048;

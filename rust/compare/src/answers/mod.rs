@@ -1,7 +1,7 @@
 //! The list of stored answers: calls and what is due to them, one to a line.
 //!
 //! An answer is that of the Rust, with the number of its refusal as the subjects say it, or where
-//! the Rust is not asked their own. Nothing here calls libprobe.a.
+//! the Rust is not asked their own. Nothing here calls the library.
 
 mod bodies;
 mod bytes;
@@ -21,8 +21,8 @@ mod writer;
 
 use std::io::{self, Write};
 
+use crate::inputs::random::Random;
 use crate::options::Options;
-use crate::random::Random;
 
 use calls::CALLS;
 use line::List;

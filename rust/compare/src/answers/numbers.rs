@@ -1,10 +1,15 @@
 //! The calls on numbers alone.
 
 use crate::answers::line::{bits, List};
-use crate::crops::turns;
-use crate::random::Random;
-use crate::run_on::{self, boundaries, next};
-use crate::{bit_width, float_bits, nearest, scale, stepped, zigzag};
+use crate::bits::bit_width;
+use crate::bits::float_bits;
+use crate::bits::nearest;
+use crate::bits::run_on::{self, boundaries, next};
+use crate::bits::scale;
+use crate::bits::stepped;
+use crate::bits::zigzag;
+use crate::crops::usable::turns;
+use crate::inputs::random::Random;
 
 const RANDOM: usize = 12;
 /// Around these the nearest float changes, and a share becomes 1.
