@@ -1,4 +1,4 @@
-//! Draws a mesh list, `draw FILE`: the points of all submeshes on the texture, as SVG.
+//! Draws a mesh list as SVG, `draw FILE`: where its points lie on the texture.
 
 use hoodsorrel::{Drawing, Given, scene::MESHES};
 
@@ -7,12 +7,8 @@ fn main() -> Result<(), Box<dyn std::error::Error>> {
     let payload = std::fs::read(file)?;
     let drawing = Drawing::of(MESHES, &payload, &Given::default()).map_err(|r| r.to_string())?;
     println!("<svg xmlns='http://www.w3.org/2000/svg' viewBox='0 0 1 1'>");
-    for [_x, _y, _z, u, v] in drawing
-        .submeshes()
-        .filter_map(|s| drawing.points(s))
-        .flatten()
-    {
-        println!("<circle cx='{u}' cy='{}' r='0.005'/>", 1.0 - v);
+    for [_x, _y, _z, u, v] in drawing.points() {
+        println!("<circle cx='{u}' cy='{}' r='0.003'/>", 1.0 - v);
     }
     println!("</svg>");
     Ok(())

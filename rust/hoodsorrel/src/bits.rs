@@ -27,10 +27,12 @@ mod floats;
 mod headers;
 mod numbers;
 mod put;
+mod runs;
 
-pub use cursors::ByteCursor;
+pub use cursors::{ByteCursor, word_of};
 pub use fields::{BitCursor, Width};
 pub use floats::{float_bits, nearest_f32, scale};
 pub use headers::{BoxHeader, box_header};
 pub use numbers::{bit_width, run_on, stepped, zigzag};
 pub use put::{put_field, put_word};
+pub use runs::{Run, check_fives, check_run, fill_fives, fill_run};

@@ -44,7 +44,13 @@ pub mod scene;
 pub mod viewer;
 
 pub use payload::{
-    Bounds, Counts, EquiFields, EquiReading, MeshListSize, MeshTables, Record, TableLengths,
+    Bounds, Counts, EquiFields, EquiReading, GridLengths, MeshListSize, MeshTables, Record,
+    TableLengths,
 };
 pub use refusal::{Needed, Refusal};
 pub use scene::{Drawing, Given, Lengths, Named, Scene, SceneAnswer};
+
+/// The program in docs/REFUSALS.md runs as a test.
+#[cfg(doctest)]
+#[doc = include_str!("../../../docs/REFUSALS.md")]
+mod refusals_document {}

@@ -80,8 +80,18 @@ calls! {
     probe_bit_new as bit_new(byte_offset: usize, words: &mut [u64]);
     probe_align as align(bit: usize, words: &mut [u64]);
     probe_read as read(s: &[u8], bit: usize, width: u32, words: &mut [u64]);
+    probe_read_two as read_two(s: &[u8], bit: usize, width: u32, words: &mut [u64]);
     probe_sum_fields as sum_fields(s: &[u8], width: u32, count: u64, words: &mut [u64]);
     probe_header as header(s: &[u8], at: usize, words: &mut [u64]);
+    probe_word_of as word_of(a: u8, b: u8, c: u8, d: u8);
+}
+
+// Runs.
+calls! {
+    probe_check_run as check_run(s: &[u8], bit: usize, limit: u16, count: u32);
+    probe_check_fives as check_fives(s: &[u8], bit: usize, limit: u16, count: u32);
+    probe_fill_run as fill_run(s: &[u8], bit: usize, width: u32, from: u16, out: &mut [u16]);
+    probe_fill_fives as fill_fives(s: &[u8], bit: usize, width: u32, out: &mut [u16]);
 }
 
 // Numbers and floats.
@@ -100,6 +110,7 @@ calls! {
 // Crops and cube maps.
 calls! {
     probe_is_usable as is_usable(crop: [f32; 4]);
+    probe_equi_crop as equi_crop(fields: [u32; 4], words: &mut [u64]);
     probe_parse_equi as parse_equi(payload: &[u8], words: &mut [u64]);
     probe_write_equi as write_equi(fields: [u32; 4], out: &mut [u8], words: &mut [u64]);
     probe_parse_cbmp as parse_cbmp(payload: &[u8], words: &mut [u64]);
@@ -111,6 +122,8 @@ calls! {
     probe_cubemap_indices as cubemap_indices(cells: u32, out: &mut [u16], words: &mut [u64]);
     probe_cubemap_mesh as cubemap_mesh(cells: u32, radius: f32, padding: f32, out: &mut [u32], words: &mut [u64]);
     probe_padding_share as padding_share(padding: u32, face: u32);
+    probe_sphere_lengths as sphere_lengths(rings: u32, sectors: u32, crop: [f32; 4], words: &mut [u64]);
+    probe_cubemap_lengths as cubemap_lengths(cells: u32, radius: f32, padding: f32, words: &mut [u64]);
 }
 
 // Counts and the viewer's small calls.
@@ -135,6 +148,7 @@ calls! {
 calls! {
     probe_measure_meshes as measure_meshes(payload: &[u8], words: &mut [u64]);
     probe_mesh_records as mesh_records(payload: &[u8], records: &mut [u32], words: &mut [u64]);
+    probe_measure_mesh as measure_mesh(body: &[u8], words: &mut [u64]);
     probe_parse_mesh as parse_mesh(body: &[u8], pool: &mut [u32], coordinates: &mut [u16],
         submeshes: &mut [u32], points: &mut [u16], words: &mut [u64]);
     probe_write_mesh as write_mesh(pool: &[u32], coordinates: &[u16],

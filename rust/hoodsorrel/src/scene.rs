@@ -232,7 +232,7 @@ impl Scene<'_> {
 /// let drawing = Drawing::of(MESHES, &payload, &Given::default())?;
 /// assert_eq!(drawing.named, Named::Meshes(Counts { meshes: 1, submeshes: 1, points: 2 }));
 /// for record in drawing.submeshes() {
-///     let points = drawing.points(record).expect("a record of this drawing");
+///     let points = drawing.points_of(record).expect("a record of this drawing");
 ///     assert_eq!((record.texture, points), (7, &[[0.5; 5]; 2][..]));
 /// }
 /// # Ok::<(), hoodsorrel::Refusal>(())
@@ -280,11 +280,18 @@ impl Drawing {
         Record::all(&self.records)
     }
 
-    /// x, y, z, u and v of each point of a submesh, if the drawing has these points.
-    pub fn points(&self, record: Record) -> Option<&[[f32; 5]]> {
-        let (points, _) = self.floats.as_chunks();
+    /// x, y, z, u and v of each point of a mesh list, or of each vertex of a cube map. A crop has none.
+    pub fn points(&self) -> &[[f32; 5]] {
+        match self.named {
+            Named::Crop(_) => &[],
+            _ => self.floats.as_chunks().0,
+        }
+    }
+
+    /// The points of a submesh, if the drawing has them.
+    pub fn points_of(&self, record: Record) -> Option<&[[f32; 5]]> {
         let first = usize::try_from(record.first).ok()?;
         let count = usize::try_from(record.points).ok()?;
-        points.get(first..first.checked_add(count)?)
+        self.points().get(first..first.checked_add(count)?)
     }
 }

@@ -96,7 +96,7 @@ fn points_of_two_eyes() {
     let drawing = Drawing::of(MESHES, &sample("two_eyes.bin"), &Given::default()).expect("a list");
     let points: Vec<[f32; 5]> = drawing
         .submeshes()
-        .flat_map(|record| drawing.points(record).expect("its points").to_vec())
+        .flat_map(|record| drawing.points_of(record).expect("its points").to_vec())
         .collect();
     assert_eq!(points.as_flattened(), drawing.floats);
     let past = Record {
@@ -104,13 +104,13 @@ fn points_of_two_eyes() {
         points: 2,
         ..Record::default()
     };
-    assert_eq!(drawing.points(past), None);
+    assert_eq!(drawing.points_of(past), None);
     let largest = Record {
         first: u32::MAX,
         points: u32::MAX,
         ..Record::default()
     };
-    assert_eq!(drawing.points(largest), None);
+    assert_eq!(drawing.points_of(largest), None);
 }
 
 #[test]

@@ -3,6 +3,8 @@
 use reference::mesh;
 use reference::pano::Bounds;
 
+use crate::bits::run_on::boundaries;
+use crate::bits::scale;
 use crate::crops::usable::bounds;
 use crate::inputs::payloads::{self, damaged, shown};
 use crate::inputs::random::Random;
@@ -30,6 +32,8 @@ pub fn run(options: &Options) -> Vec<Tally> {
     let mut beyond = Tally::new(options, "equi beyond the Rust", what);
     let what = "answer and buffer against to_be_bytes, read back with mesh::parse_equi";
     let mut writes = Tally::new(options, "equi written", what);
+    let what = "each side against `scale` of mesh::parse_equi, usable or not";
+    let mut crops = Tally::new(options, "equi crop", what);
     let mut random = Random::new(options.seed, NAME);
     single_fields(options, &mut tally);
     for fields in pairs() {
@@ -44,7 +48,8 @@ pub fn run(options: &Options) -> Vec<Tally> {
         check(&mut tally, &random.bytes(n));
     }
     written(&mut writes, &mut random);
-    vec![tally, beyond, writes]
+    cropped(&mut crops, &mut random);
+    vec![tally, beyond, writes, crops]
 }
 
 pub fn payload(fields: Fields) -> [u8; LENGTH] {
@@ -143,6 +148,31 @@ fn check(tally: &mut Tally, payload: &[u8]) {
         &due(payload),
         |words| hoodsorrel::raw::parse_equi(payload, words),
         || shown(payload),
+    );
+}
+
+/// What `EquiFields::crop` answers, of usable fields and of others.
+pub fn crop_due(fields: Fields) -> Answer {
+    Answer::words(&fields.map(|v| scale::due(v) as u64))
+}
+
+fn cropped(tally: &mut Tally, random: &mut Random) {
+    for v in boundaries() {
+        for w in boundaries() {
+            crop(tally, [v, w, !w, !v]);
+        }
+    }
+    for _ in 0..WRITTEN {
+        crop(tally, random_fields(random));
+        crop(tally, [0; 4].map(|_| random.word()));
+    }
+}
+
+fn crop(tally: &mut Tally, fields: Fields) {
+    tally.call(
+        &crop_due(fields),
+        |words| hoodsorrel::raw::equi_crop(fields, words),
+        || fields,
     );
 }
 

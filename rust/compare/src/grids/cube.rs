@@ -161,7 +161,7 @@ pub fn cells_usable(cells: u32) -> bool {
     (1..=MOST_CELLS).contains(&cells)
 }
 
-fn numbers_usable(radius: f32, share: f32) -> bool {
+pub fn numbers_usable(radius: f32, share: f32) -> bool {
     radius.is_finite() && (0.0..0.5).contains(&share)
 }
 

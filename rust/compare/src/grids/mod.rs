@@ -2,6 +2,7 @@
 
 pub mod counts;
 pub mod cube;
+pub mod lengths;
 pub mod shares;
 pub mod sphere;
 
@@ -10,5 +11,6 @@ use crate::Subject;
 pub const SUBJECTS: &[Subject] = &[
     ("sphere", sphere::run),
     ("cube", cube::run),
+    ("lengths", lengths::run),
     ("counts", counts::run),
 ];

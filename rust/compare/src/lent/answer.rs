@@ -37,6 +37,11 @@ impl Answer {
         Answer::new(-refusal, &[])
     }
 
+    /// The answer of a call that is lent no words: a number.
+    pub fn number(code: i64) -> Answer {
+        Answer::new(code, &[])
+    }
+
     /// The bits of floats.
     pub fn floats(floats: &[f32]) -> Answer {
         let mut words = [0; MOST_STORED];

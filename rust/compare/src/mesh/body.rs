@@ -31,6 +31,7 @@ struct Bodies {
     random: Random,
     model: Tally,
     parsed: Tally,
+    measured: Tally,
     beyond: Tally,
 }
 
@@ -45,7 +46,7 @@ pub fn run(options: &Options) -> Vec<Tally> {
     }
     bodies.large();
     bodies.longest();
-    vec![bodies.model, bodies.parsed, bodies.beyond]
+    vec![bodies.model, bodies.parsed, bodies.measured, bodies.beyond]
 }
 
 impl Bodies {
@@ -58,6 +59,7 @@ impl Bodies {
                 "a model's tables, points followed to five pool words, against mesh::parse_mesh",
             ),
             parsed: tally(NAME, "answer and tables against the model"),
+            measured: tally("mesh measured", "the same lengths and refusals"),
             beyond: tally(
                 "mesh beyond the Rust",
                 "calls on more than 65536 submeshes or 67108864 bytes against the model",
@@ -120,7 +122,9 @@ impl Bodies {
                 .check(agrees(body, &reading), true, || shown(body));
             &mut self.parsed
         };
-        parse(tally, &mut self.random, body, &reading.map(Tables::from));
+        let due = reading.map(Tables::from);
+        parse(tally, &mut self.random, body, &due);
+        measure(&mut self.measured, body, &due);
     }
 }
 
@@ -158,6 +162,22 @@ fn parse(tally: &mut Tally, random: &mut Random, body: &[u8], due: &Due) {
     for lent in lent {
         parse_on(tally, body, due, lent);
     }
+}
+
+/// The lengths of the tables.
+pub fn measured(due: &Due) -> Answer {
+    match due {
+        Err(refusal) => Answer::refused(*refusal),
+        Ok(tables) => Answer::words(&tables.lengths().map(|n| n as u64)),
+    }
+}
+
+fn measure(tally: &mut Tally, body: &[u8], due: &Due) {
+    tally.call(
+        &measured(due),
+        |words| hoodsorrel::raw::measure_mesh(body, words),
+        || shown(body),
+    );
 }
 
 /// The answer on buffers of these lengths, and the tables that are put into them.

@@ -24,6 +24,15 @@ pub struct ByteCursor {
     pub at: usize,
 }
 
+/// Four bytes as a number, big end first.
+///
+/// ```
+/// assert_eq!(hoodsorrel::bits::word_of(1, 2, 3, 4), 0x0102_0304);
+/// ```
+pub fn word_of(a: u8, b: u8, c: u8, d: u8) -> u32 {
+    raw::word_of(a, b, c, d) as u32
+}
+
 impl ByteCursor {
     /// The first byte.
     pub fn new() -> ByteCursor {

@@ -61,6 +61,22 @@ impl BitCursor {
         Ok((low(value), BitCursor::from_word(bit)))
     }
 
+    /// The next two fields of one width, and the place after both.
+    ///
+    /// Refused with 3 where fewer bits are left than both have.
+    ///
+    /// ```
+    /// use hoodsorrel::bits::{BitCursor, Width};
+    ///
+    /// let four = Width::new(4).expect("at most 32");
+    /// let read = BitCursor { bit: 4 }.read_two(&[0x12, 0x34], four);
+    /// assert_eq!(read, Ok((2, 3, BitCursor { bit: 12 })));
+    /// ```
+    pub fn read_two(self, s: &[u8], width: Width) -> Result<(u32, u32, BitCursor), Refusal> {
+        let [a, b, bit, ..] = words(|words| raw::read_two(s, self.bit, width.bits(), words))?;
+        Ok((low(a), low(b), BitCursor::from_word(bit)))
+    }
+
     /// The next place where a byte begins, or the same; the largest place where that is larger.
     pub fn align_to_byte(self) -> BitCursor {
         BitCursor::from_word(told(|words| raw::align(self.bit, words))[0])

@@ -1,8 +1,24 @@
 //! The cube map: the triangles and the vertices of six faces, each a grid of cells.
 
-use crate::answer::{float_of, size, word};
+use crate::answer::{float_of, size, word, words};
+use crate::payload::GridLengths;
 use crate::raw;
 use crate::refusal::Refusal;
+
+/// How long the numbers ([`cubemap_indices`]) and the vertices' floats ([`cubemap_mesh`]) of a cube are.
+///
+/// Refused with 9, then 11.
+///
+/// ```
+/// use hoodsorrel::payload::{cubemap_lengths, GridLengths};
+/// use hoodsorrel::Refusal;
+///
+/// assert_eq!(cubemap_lengths(1, 1.0, 0.0), Ok(GridLengths { numbers: 36, floats: 120 }));
+/// assert_eq!(cubemap_lengths(1, 1.0, 0.5), Err(Refusal::RadiusOrFaceWidth));
+/// ```
+pub fn cubemap_lengths(cells: u32, radius: f32, padding: f32) -> Result<GridLengths, Refusal> {
+    words(|words| raw::cubemap_lengths(cells, radius, padding, words)).map(GridLengths::from_words)
+}
 
 /// The vertex numbers of a cube's triangles, and how many there are.
 ///

@@ -1,6 +1,6 @@
 //! Kind 0: the equi payload, how much of the sphere is missing at each edge.
 
-use crate::answer::{low, size, word, words};
+use crate::answer::{low, size, told, word, words};
 use crate::payload::Bounds;
 use crate::raw;
 use crate::refusal::Refusal;
@@ -16,6 +16,22 @@ pub struct EquiFields {
     pub l: u32,
     /// Right.
     pub r: u32,
+}
+
+impl EquiFields {
+    /// The crop that the fields make, usable or not: each as a share of 2^32.
+    ///
+    /// ```
+    /// use hoodsorrel::payload::{Bounds, EquiFields};
+    ///
+    /// let fields = EquiFields { t: 0x4000_0000, r: u32::MAX, ..EquiFields::default() };
+    /// assert_eq!(fields.crop(), Bounds { top: 0.25, right: 1.0, ..Bounds::FULL });
+    /// ```
+    pub fn crop(self) -> Bounds {
+        let EquiFields { t, b, l, r } = self;
+        let [top, bottom, left, right, ..] = told(|words| raw::equi_crop([t, b, l, r], words));
+        Bounds::from_words([top, bottom, left, right])
+    }
 }
 
 /// What an equi payload says: its fields, and the crop that they make.

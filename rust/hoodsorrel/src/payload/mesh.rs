@@ -1,6 +1,6 @@
 //! A mesh body as four tables.
 
-use crate::answer::{Words, asked, size, word};
+use crate::answer::{Words, asked, size, word, words};
 use crate::raw;
 use crate::refusal::{Needed, Refusal};
 
@@ -26,6 +26,26 @@ impl TableLengths {
             points: size(points),
         }
     }
+}
+
+/// Measures a mesh body: the lengths of its tables.
+///
+/// Refused with 2, then 3, 7 and 8 in field order.
+///
+/// ```
+/// use hoodsorrel::payload::{measure_mesh, TableLengths};
+/// use hoodsorrel::Refusal;
+///
+/// // One coordinate, one vertex, one submesh of two points.
+/// let body = [0, 0, 0, 1, 0x3F, 0, 0, 0, 0, 0, 0, 1, 0, 0, 0, 0, 1, 7, 4, 0, 0, 0, 2, 0];
+/// assert_eq!(
+///     measure_mesh(&body),
+///     Ok(TableLengths { pool: 1, coordinates: 5, submeshes: 3, points: 2 })
+/// );
+/// assert_eq!(measure_mesh(&body[..23]), Err(Refusal::TooFewBytes));
+/// ```
+pub fn measure_mesh(body: &[u8]) -> Result<TableLengths, Refusal> {
+    words(|words| raw::measure_mesh(body, words)).map(TableLengths::from_words)
 }
 
 /// Reads a mesh body into four lent tables, and answers their used lengths: the pool's words, five coordinate numbers

@@ -1,9 +1,44 @@
 //! The sphere's grid of rings and sectors: its triangles, as vertex numbers, and its texture coordinates.
 
-use crate::answer::{size, word};
+use crate::answer::{Words, size, word, words};
 use crate::payload::Bounds;
 use crate::raw;
 use crate::refusal::Refusal;
+
+/// How long the two lists of a grid are.
+#[derive(Clone, Copy, Debug, Default, PartialEq, Eq, Hash)]
+pub struct GridLengths {
+    /// The numbers of its triangles.
+    pub numbers: usize,
+    /// The floats of its vertices.
+    pub floats: usize,
+}
+
+impl GridLengths {
+    pub(crate) fn from_words([numbers, floats, ..]: Words) -> GridLengths {
+        GridLengths {
+            numbers: size(numbers),
+            floats: size(floats),
+        }
+    }
+}
+
+/// How long the numbers ([`sphere_indices_bounded`]) and the texture coordinates ([`sphere_uvs`]) of the patch are
+/// that a crop covers.
+///
+/// Refused with 9, then 10.
+///
+/// ```
+/// use hoodsorrel::payload::{sphere_lengths, Bounds, GridLengths};
+/// use hoodsorrel::Refusal;
+///
+/// assert_eq!(sphere_lengths(2, 3, Bounds::FULL), Ok(GridLengths { numbers: 18, floats: 24 }));
+/// assert_eq!(sphere_lengths(1, 3, Bounds::FULL), Err(Refusal::Grid));
+/// ```
+pub fn sphere_lengths(rings: u32, sectors: u32, bounds: Bounds) -> Result<GridLengths, Refusal> {
+    words(|words| raw::sphere_lengths(rings, sectors, bounds.sides(), words))
+        .map(GridLengths::from_words)
+}
 
 /// The vertex numbers of the whole sphere's triangles, row by row, and how many there are.
 ///

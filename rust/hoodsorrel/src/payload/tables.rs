@@ -1,7 +1,7 @@
 //! A mesh with tables of its own.
 
 use crate::memory;
-use crate::payload::{TableLengths, parse_mesh, write_mesh};
+use crate::payload::{TableLengths, measure_mesh, parse_mesh, write_mesh};
 use crate::refusal::{Needed, Refusal};
 
 /// A place in the pool.
@@ -68,11 +68,7 @@ impl MeshTables {
     ///
     /// Refused with 2, then 3, 7 and 8 in field order; and with 12 where memory does not hold the tables.
     pub fn of(body: &[u8]) -> Result<MeshTables, Refusal> {
-        let lengths = match parse_mesh(body, &mut [], &mut [], &mut [], &mut []) {
-            Err(Refusal::BufferTooShort(Needed::Tables(lengths))) => lengths,
-            Err(refusal) => return Err(refusal),
-            Ok(lengths) => lengths,
-        };
+        let lengths = measure_mesh(body)?;
         let mut tables =
             MeshTables::with(lengths).ok_or(Refusal::BufferTooShort(Needed::Tables(lengths)))?;
         parse_mesh(
