@@ -6,7 +6,7 @@ use crate::answers::line::{bounded, lent, List, MOST_TABLES};
 use crate::answers::{one_of, thinned};
 use crate::inputs::random::Random;
 use crate::lent::tables::{lengths, refused_lengths};
-use crate::mesh::body::{agrees, parsed, Due};
+use crate::mesh::body::{agrees, measured, parsed, Due};
 use crate::mesh::damage::{damaged, every_bit, every_count, every_stray, stray};
 use crate::mesh::lists::MOST_SUBMESHES;
 use crate::mesh::model::parse_mesh;
@@ -52,6 +52,28 @@ pub fn add(list: &mut List, random: &mut Random) {
         }
         stray(random, &mut mesh);
         on_one(list, random, &spell::body(&mesh).bytes);
+    }
+}
+
+/// The same bodies, measured.
+pub fn add_measured(list: &mut List, random: &mut Random) {
+    let mut measure = |body: &[u8]| {
+        list.words("measure_mesh", &[], body, &measured(&due(body)));
+    };
+    measure(&spell::body(&m1()).bytes);
+    for (pool, vertices, points) in LARGE {
+        measure(&spell::body(&sized(random, pool, vertices, points)).bytes);
+    }
+    for body in faults_of_m1().iter().step_by(2) {
+        measure(body);
+    }
+    for _ in 0..RANDOM {
+        let mut mesh = small(random);
+        let spelled = spell::body(&mesh);
+        measure(&spelled.bytes);
+        measure(&damaged(random, &spelled));
+        stray(random, &mut mesh);
+        measure(&spell::body(&mesh).bytes);
     }
 }
 

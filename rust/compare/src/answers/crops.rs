@@ -39,6 +39,22 @@ pub fn add(list: &mut List, random: &mut Random) {
     some_cuts(random, &cbmp::payload(256, 4097), |p| read_cube(list, p));
 }
 
+/// The crop that fields make, usable or not.
+pub fn add_crop(list: &mut List, random: &mut Random) {
+    for fields in USABLE.into_iter().chain(UNUSABLE) {
+        crop_of(list, fields);
+    }
+    for _ in 0..RANDOM {
+        crop_of(list, random_fields(random));
+        crop_of(list, [0; 4].map(|_| random.word()));
+    }
+}
+
+fn crop_of(list: &mut List, fields: Fields) {
+    let args = fields.map(u64::from);
+    list.words("equi_crop", &args, &[], &equi::crop_due(fields));
+}
+
 /// Every length up to that of the payload, and some lengths of each version.
 fn some_cuts(random: &mut Random, payload: &[u8], mut each: impl FnMut(&[u8])) {
     for n in 0..=payload.len() {

@@ -2,6 +2,7 @@
 
 use crate::answers::line::List;
 use crate::bits::fields::{self, NO_PRODUCT};
+use crate::bits::read_two;
 use crate::inputs::buffers::place;
 use crate::inputs::random::Random;
 
@@ -30,6 +31,28 @@ pub fn add(list: &mut List, random: &mut Random) {
         }
         last(list, random, width);
     }
+}
+
+/// Two fields of one width.
+pub fn add_two(list: &mut List, random: &mut Random) {
+    for width in WIDTHS.into_iter().chain([15, 16]) {
+        for _ in 0..FIELDS {
+            let n = random.below(10);
+            let data = random.bytes(n);
+            two(list, &data, place(random, 8 * n), width);
+        }
+        let data = random.bytes(9);
+        let end = 8 * data.len();
+        let first = end.saturating_sub(2 * width.min(32) as usize);
+        for bit in [first, first + 1, end, usize::MAX] {
+            two(list, &data, bit, width);
+        }
+    }
+}
+
+fn two(list: &mut List, data: &[u8], bit: usize, width: u32) {
+    let args = [bit as u64, width.into()];
+    list.words("read_two", &args, data, &read_two::due(data, bit, width));
 }
 
 /// A field that ends with its buffer, the next one, and one at the largest place.

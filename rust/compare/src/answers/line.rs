@@ -123,6 +123,18 @@ impl List {
         self.push(name, &args, &[], due, Sum::of_nothing());
     }
 
+    /// A call on data that is lent nothing.
+    pub fn judged(&mut self, name: &str, args: &[u64], data: &[u8], due: i64) {
+        self.push(name, args, data, due, Sum::of_nothing());
+    }
+
+    /// A call on data that is lent one buffer and no words.
+    pub fn filled(&mut self, name: &str, args: &[u64], data: &[u8], due: i64, buffer: &dyn Lent) {
+        let mut sum = Sum::of_nothing();
+        buffer.add_to(&mut sum);
+        self.push(name, args, data, due, sum);
+    }
+
     /// A call that is lent words.
     pub fn words(&mut self, name: &str, args: &[u64], data: &[u8], due: &Answer) {
         self.buffers(name, args, data, due, &[]);

@@ -10,10 +10,12 @@ mod counts;
 mod crops;
 mod cubes;
 mod fields;
+mod lengths;
 mod line;
 mod lists;
 mod numbers;
 mod put;
+mod runs;
 mod scenes;
 mod spheres;
 mod view;
@@ -30,7 +32,7 @@ use line::List;
 type Group = (&'static str, fn(&mut List, &mut Random));
 
 /// Each takes random numbers of its own name.
-const GROUPS: [Group; 13] = [
+const GROUPS: [Group; 19] = [
     ("answers bytes", bytes::add),
     ("answers fields", fields::add),
     ("answers numbers", numbers::add),
@@ -44,6 +46,12 @@ const GROUPS: [Group; 13] = [
     ("answers scenes", scenes::add),
     ("answers counts", counts::add),
     ("answers view", view::add),
+    ("answers two fields", fields::add_two),
+    ("answers word", numbers::add_word),
+    ("answers runs", runs::add),
+    ("answers crop", crops::add_crop),
+    ("answers lengths", lengths::add),
+    ("answers measured", bodies::add_measured),
 ];
 
 const SOURCE: &str = "\

@@ -18,7 +18,7 @@ const BEFORE: [usize; 5] = [0, 5, 31, 33, 40];
 /// Every so manieth limit is tried, and each one with `--long`.
 const STEP: usize = 3;
 /// Limits around which most differs, and those of document 01.
-const LIMITS: [u16; 24] = [
+pub const LIMITS: [u16; 24] = [
     0, 1, 2, 3, 4, 5, 7, 8, 9, 127, 128, 129, 9_999, 10_000, 10_001, 16_384, 31_999, 32_000,
     32_001, 32_767, 32_768, 32_769, 65_534, 65_535,
 ];
@@ -48,9 +48,9 @@ struct Runs {
 }
 
 /// A run that is spelled: its bytes, where it starts, and its numbers' limit.
-struct Spelled {
-    bytes: Vec<u8>,
-    bit: usize,
+pub struct Spelled {
+    pub bytes: Vec<u8>,
+    pub bit: usize,
     limit: u16,
 }
 
@@ -190,7 +190,7 @@ impl Runs {
 }
 
 /// Spells numbers as steps from those that had the turn before. A step that the width does not hold is cut off.
-fn spelled(random: &mut Random, limit: u16, turns: usize, numbers: &[i64]) -> Spelled {
+pub fn spelled(random: &mut Random, limit: u16, turns: usize, numbers: &[i64]) -> Spelled {
     let bit = random.pick(&BEFORE);
     let mut out = BitWriter::default();
     for _ in 0..bit {

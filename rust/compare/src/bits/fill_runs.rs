@@ -12,9 +12,9 @@ use crate::tally::Tally;
 const NAME: &str = "fill_runs";
 const RANDOM: u32 = 500_000;
 /// Running numbers to go on from.
-const FROM: [u16; 5] = [0, 1, 0x7FFF, 0x8000, 0xFFFF];
+pub const FROM: [u16; 5] = [0, 1, 0x7FFF, 0x8000, 0xFFFF];
 /// Widths: all that are handed out, and others.
-const OTHERS: [u32; 6] = [0, WIDEST + 1, 31, 32, 33, u32::MAX];
+pub const OTHERS: [u32; 6] = [0, WIDEST + 1, 31, 32, 33, u32::MAX];
 
 pub fn run(options: &Options) -> Vec<Tally> {
     let mut runs = Runs::new(options);

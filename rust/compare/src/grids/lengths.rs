@@ -16,7 +16,7 @@ use crate::tally::Tally;
 const NAME: &str = "lengths";
 const RANDOM: u32 = 20_000;
 /// Grids of as many vertices as may be, and of one line more.
-const CLOSE: [(u32, u32); 10] = [
+pub const CLOSE: [(u32, u32); 10] = [
     (255, 255),
     (255, 256),
     (256, 255),
