@@ -89,6 +89,21 @@ impl Refusal {
         }
     }
 
+    /// The refusal of a number, as in a listing that says `refused 8`. 12 is none without its lengths.
+    ///
+    /// ```
+    /// use hoodsorrel::Refusal;
+    ///
+    /// assert_eq!(Refusal::from_number(8), Some(Refusal::RunningNumber));
+    /// assert_eq!([0, 12, 15].map(Refusal::from_number), [None; 3]);
+    /// ```
+    pub fn from_number(number: u8) -> Option<Refusal> {
+        match number {
+            1..=11 | 13 | 14 => Some(Refusal::of_code(-i64::from(number), Needed::One(0))),
+            _ => None,
+        }
+    }
+
     /// What the number means.
     pub const fn meaning(self) -> &'static str {
         match self {
