@@ -6,19 +6,19 @@ use super::unpack::unpack_u16s;
 use super::unpack::unpack_u32s;
 use crate::sum;
 use bits::BitCursor;
-use probe::meshes::probe_measure_meshes;
-use probe::meshes::probe_mesh_records;
-use probe::meshes::probe_parse_mesh;
-use probe::meshes::probe_parse_meshes;
-use probe::meshes::probe_write_mesh;
+use capi::meshes::capi_measure_meshes;
+use capi::meshes::capi_mesh_records;
+use capi::meshes::capi_parse_mesh;
+use capi::meshes::capi_parse_meshes;
+use capi::meshes::capi_write_mesh;
 ghost use Prim.Native.Nat.{_≤_};
 
 pub fn measure(payload: &[u8], words: &mut [u64]) -> i64 {
-    probe_measure_meshes(payload, words)
+    capi_measure_meshes(payload, words)
 }
 
 pub fn records(payload: &[u8], out: &mut [u32], words: &mut [u64]) -> i64 {
-    probe_mesh_records(payload, out, words)
+    capi_mesh_records(payload, out, words)
 }
 
 pub fn parse(
@@ -28,7 +28,7 @@ pub fn parse(
     records: &mut [u32],
     words: &mut [u64],
 ) -> i64 {
-    probe_parse_meshes(payload, numbers, floats, records, words)
+    capi_parse_meshes(payload, numbers, floats, records, words)
 }
 
 fn parse_tables(
@@ -39,7 +39,7 @@ fn parse_tables(
     points: &mut [u16],
 ) -> Outcome {
     let mut words = WORDS;
-    let r = probe_parse_mesh(body, pool, coordinates, submeshes, points, &mut words);
+    let r = capi_parse_mesh(body, pool, coordinates, submeshes, points, &mut words);
     let a = sum::add_u32s(sum::of_words(&words), pool);
     let b = sum::add_u16s(a, coordinates);
     let c = sum::add_u32s(b, submeshes);
@@ -59,7 +59,7 @@ fn write_tables(
     let c = unpack_u32s(data, b, submeshes);
     unpack_u16s(data, c, points);
     let mut words = WORDS;
-    let r = probe_write_mesh(pool, coordinates, submeshes, points, out, &mut words);
+    let r = capi_write_mesh(pool, coordinates, submeshes, points, out, &mut words);
     Outcome::Answer(answer_bits(r), sum::add_u8s(sum::of_words(&words), out))
 }
 

@@ -1,7 +1,7 @@
 // Call 25: the scene.
 use super::arguments::float;
 use super::arguments::word;
-use probe::scene_call::probe_scene;
+use capi::scene_call::capi_scene;
 
 pub fn scene(
     args: &[u64; 10],
@@ -11,7 +11,7 @@ pub fn scene(
     records: &mut [u32],
     words: &mut [u64],
 ) -> i64 {
-    probe_scene(
+    capi_scene(
         word(args[0]),
         payload,
         word(args[1]),

@@ -1,0 +1,5 @@
+-- The laws that the functions' proofs share.
+pub mod Stores
+pub mod Handed
+pub mod ShownLaws
+pub mod Totals

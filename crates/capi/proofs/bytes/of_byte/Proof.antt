@@ -1,0 +1,41 @@
+-- `of_byte` meets its contract. Assumes nothing.
+use borrow.Author.Needs.{needs}
+use Rattle.capi.proofs.bytes.of_byte.Statement.{statement}
+use Rattle.capi.proofs.bytes.of_byte.Tie as tie
+
+enum-known-x : tie.Need-enum-known-x
+enum-known-x c = search needs
+
+cast-t6 : tie.Need-cast-t6
+cast-t6 c = search needs
+
+slice-aggregate-accept : tie.Need-slice-aggregate-accept
+slice-aggregate-accept c = search needs
+
+accept-requires : tie.Need-accept-requires
+accept-requires c κs = search needs
+
+enum-told : tie.Need-enum-told
+enum-told c = search needs
+
+decline-requires : tie.Need-decline-requires
+decline-requires c κs = search needs
+
+returns : tie.Need-returns
+returns c = rw (c .before .before .before .x .given .1) (c .accept .ensures)
+
+returns-2 : tie.Need-returns-2
+returns-2 c = rw (c .before .enum-told .given .1) (c .decline .ensures)
+
+pub of-byte-spec : {M : Type 1} → statement M
+of-byte-spec =
+    tie.close
+    (tie.spec
+    enum-known-x
+    cast-t6
+    slice-aggregate-accept
+    accept-requires
+    enum-told
+    decline-requires
+    returns
+    returns-2)

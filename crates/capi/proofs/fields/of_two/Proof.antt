@@ -1,0 +1,45 @@
+-- `of_two` meets its contract, variant by variant. Assumes nothing.
+use borrow.Author.Needs.{needs}
+use Rattle.capi.proofs.fields.of_two.Statement.{statement}
+use Rattle.capi.proofs.fields.of_two.Tie as tie
+
+enum-known-x : tie.Need-enum-known-x
+enum-known-x c = search needs
+
+cast-t7 : tie.Need-cast-t7
+cast-t7 c = search needs
+
+cast-t8 : tie.Need-cast-t8
+cast-t8 c = search needs
+
+slice-aggregate-accept : tie.Need-slice-aggregate-accept
+slice-aggregate-accept c = search needs
+
+accept-requires : tie.Need-accept-requires
+accept-requires c κs = search needs
+
+enum-told : tie.Need-enum-told
+enum-told c = search needs
+
+decline-requires : tie.Need-decline-requires
+decline-requires c κs = search needs
+
+returns : tie.Need-returns
+returns c = rw (c .before .before .before .x .given .1) (c .accept .ensures)
+
+returns-2 : tie.Need-returns-2
+returns-2 c = rw (c .before .enum-told .given .1) (c .decline .ensures)
+
+pub of-two-spec : {M : Type 1} → statement M
+of-two-spec =
+    tie.close
+    (tie.spec
+    enum-known-x
+    cast-t7
+    cast-t8
+    slice-aggregate-accept
+    accept-requires
+    enum-told
+    decline-requires
+    returns
+    returns-2)
