@@ -4,7 +4,7 @@ use std::env;
 use std::path::{Path, PathBuf};
 use std::process::exit;
 
-const LIBRARIES: [&str; 2] = ["probe", "viewer"];
+const LIBRARIES: [&str; 2] = ["capi", "viewer"];
 
 /// The folder of the libraries, which may be relative to the project's root.
 const VARIABLE: &str = "HOODSORREL_LIB_DIR";

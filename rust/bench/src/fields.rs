@@ -1,4 +1,4 @@
-//! Nanoseconds per field: the reference's `BitReader` and `probe_sum_fields` over one buffer.
+//! Nanoseconds per field: the reference's `BitReader` and `sum_fields` over one buffer.
 
 use std::hint::black_box;
 

@@ -138,7 +138,6 @@ pub const CALLS: [Call; 61] = [
     call("fov_for_zoom", &["zoom"], "-", "-"),
     call("zoom_for_fov", &["fov"], "-", "-"),
     call("read_two", &["bit", "width"], "bytes", "words"),
-    call("word_of", &["a", "b", "c", "d"], "-", "-"),
     call("check_run", &["bit", "limit", "count"], "bytes", "-"),
     call("check_fives", &["bit", "limit", "count"], "bytes", "-"),
     call(
@@ -153,7 +152,8 @@ pub const CALLS: [Call; 61] = [
         "bytes",
         "numbers",
     ),
-    call("equi_crop", &["t", "b", "l", "r"], "-", "words"),
+    call("word_of", &["a", "b", "c", "d"], "-", "-"),
+    call("measure_mesh", &[], "body", "words"),
     call(
         "sphere_lengths",
         &["rings", "sectors", "top", "bottom", "left", "right"],
@@ -166,5 +166,5 @@ pub const CALLS: [Call; 61] = [
         "-",
         "words",
     ),
-    call("measure_mesh", &[], "body", "words"),
+    call("equi_crop", &["t", "b", "l", "r"], "-", "words"),
 ];

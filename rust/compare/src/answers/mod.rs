@@ -67,7 +67,8 @@ const FORM: &str = "\
 # words, or the number itself where no words are lent, or -k for refusal k, of which 12 names the
 # needed lengths in its words, or 8000000000000000 for a width above 32.
 # SUM is FNV-1a in 32 bits over the bytes of what was lent as it is after the call, each item with
-# its big end first: eight words, then the buffers. Before the call all their bytes are a5.
+# its big end first: eight words where words are lent, then the buffers. Before the call all their
+# bytes are a5.
 # A NaN that arithmetic makes is 7fc00000.
 # Refusal 2 is not here: it takes a payload of more than 67108864 bytes.
 #
