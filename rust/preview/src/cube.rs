@@ -1,6 +1,6 @@
 //! A cube map: its six faces in the texture, with the padding between them.
 
-use probe_sys::Given;
+use hoodsorrel::raw::Given;
 
 use crate::axes;
 use crate::listing::Listing;

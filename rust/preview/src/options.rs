@@ -4,7 +4,7 @@ use std::ffi::{OsStr, OsString};
 use std::path::PathBuf;
 use std::str::FromStr;
 
-use probe_sys::Given;
+use hoodsorrel::raw::Given;
 
 pub const USAGE: &str =
     "usage: preview KIND FILE [--out FILE.svg] [--rings N] [--sectors N] [--cells N] \

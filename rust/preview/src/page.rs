@@ -1,6 +1,6 @@
 //! The page: a heading, the picture, and the listing at its right.
 
-use probe_sys::Given;
+use hoodsorrel::raw::Given;
 
 use crate::listing::Listing;
 use crate::scene::{Reading, Scene};

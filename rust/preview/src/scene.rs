@@ -2,8 +2,8 @@
 
 use std::fmt;
 
-use hoodsorrel_viewer::Refusal;
-use probe_sys::{Crop, Given, NEEDS};
+use hoodsorrel::raw::{Crop, Given, NEEDS};
+use hoodsorrel::Refusal;
 
 /// Words of an answer.
 const WORDS: usize = 8;
@@ -70,7 +70,7 @@ fn ask(kind: u32, payload: &[u8], given: Given, buffers: Buffers) -> Result<Answ
         mut floats,
         mut records,
     } = buffers;
-    let code = probe_sys::scene(
+    let code = hoodsorrel::raw::scene(
         kind,
         payload,
         given,
@@ -144,7 +144,7 @@ impl fmt::Display for Failure {
     fn fmt(&self, f: &mut fmt::Formatter) -> fmt::Result {
         match self {
             Failure::Refused(number) => match Refusal::from_number(*number) {
-                Some(refusal) => write!(f, "refused {number}: {refusal}"),
+                Some(refusal) => write!(f, "{refusal}"),
                 None => write!(f, "refused {number}"),
             },
             Failure::Memory([numbers, floats, records]) => write!(

@@ -1,6 +1,6 @@
 //! A crop: the grid of its texture, at its place on the whole sphere.
 
-use probe_sys::{Crop, Given};
+use hoodsorrel::raw::{Crop, Given};
 
 use crate::axes::grey;
 use crate::listing::Listing;
