@@ -46,7 +46,7 @@ pub fn table() -> Result<(), String> {
         &payload,
         vec![0; RECORDS],
         rust_list,
-        recorded,
+        |payload, lent| recorded(payload, lent),
     )?;
     let body = &payload[HEADER..];
     let tables = needed(body).ok_or("not measured: parse_mesh")?;
@@ -100,7 +100,7 @@ fn measured(payload: &[u8], (): &mut ()) -> Option<u64> {
     (code == 6).then_some(words[2])
 }
 
-fn recorded(payload: &[u8], lent: &mut Vec<u32>) -> Option<u64> {
+fn recorded(payload: &[u8], lent: &mut [u32]) -> Option<u64> {
     let mut words = [0; 3];
     let code = hoodsorrel::raw::mesh_records(payload, lent, &mut words);
     (code == 3).then_some(words[2])

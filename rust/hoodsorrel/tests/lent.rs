@@ -183,7 +183,7 @@ fn bits_of_words() {
     }
 }
 
-/// A drawing that no memory holds is refused with its lengths: 67,108,832 bytes spell 500 million points and more.
+/// A list of nearly the longest has more than 500 million points. Its lengths are told, and nothing is allocated.
 #[test]
 fn the_longest_list_is_measured() {
     let mut body = [

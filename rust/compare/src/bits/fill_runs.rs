@@ -38,7 +38,7 @@ pub fn run_due(data: &[u8], bit: usize, width: u32, from: u16, after: &mut [u16]
 
 /// The same with five running numbers. A buffer that is not whole fives stays as it was.
 pub fn fives_due(data: &[u8], bit: usize, width: u32, after: &mut [u16]) -> i64 {
-    if after.len() % FIVE != 0 {
+    if !after.len().is_multiple_of(FIVE) {
         return 0;
     }
     filled(data, bit, width, &[0; FIVE], after)
