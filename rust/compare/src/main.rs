@@ -21,7 +21,7 @@ use std::io::{stdout, BufWriter};
 use std::process::ExitCode;
 
 use options::Options;
-use tally::Tally;
+use tally::{Found, Tally};
 
 type Subject = (&'static str, fn(&Options) -> Vec<Tally>);
 
@@ -78,27 +78,16 @@ fn known_subjects(options: Options) -> Result<Options, String> {
     Ok(options)
 }
 
-/// Runs the selected subjects and prints what they found. Whether every comparison ran on some input and found no
-/// difference.
+/// Runs the selected subjects and prints what they found. Whether all is well.
 fn compare(options: &Options) -> bool {
     println!("seed {}", options.seed);
-    let (mut inputs, mut differences, mut idle) = (0, 0, 0);
-    for (name, run) in subjects().filter(|(name, _)| options.selects(name)) {
-        let tallies = run(options);
-        if tallies.is_empty() {
-            println!("{name}: nothing was compared");
-            idle += 1;
-        }
-        for tally in tallies {
+    let mut found = Found::default();
+    for (_, run) in subjects().filter(|(name, _)| options.selects(name)) {
+        for tally in run(options) {
             tally.print();
-            inputs += tally.inputs();
-            differences += tally.differences();
-            idle += u64::from(tally.inputs() == 0);
+            found.add(&tally);
         }
     }
-    println!("compared {inputs} inputs, {differences} differences");
-    if idle > 0 {
-        println!("{idle} comparisons ran on no input");
-    }
-    inputs > 0 && differences == 0 && idle == 0
+    found.print();
+    found.is_well()
 }

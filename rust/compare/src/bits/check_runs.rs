@@ -15,8 +15,6 @@ const RANDOM: u32 = 400_000;
 const SPOILED: u32 = 600;
 /// So many bits are before a run: also where no two fields share a window.
 const BEFORE: [usize; 5] = [0, 5, 31, 33, 40];
-/// Every so manieth limit is tried, and each one with `--long`.
-const STEP: usize = 3;
 /// Limits around which most differs, and those of document 01.
 pub const LIMITS: [u16; 24] = [
     0, 1, 2, 3, 4, 5, 7, 8, 9, 127, 128, 129, 9_999, 10_000, 10_001, 16_384, 31_999, 32_000,
@@ -28,8 +26,7 @@ const TURNS: [usize; 2] = [1, FIVE];
 
 pub fn run(options: &Options) -> Vec<Tally> {
     let mut runs = Runs::new(options);
-    let step = if options.long { 1 } else { STEP };
-    for limit in (0..=u16::MAX).step_by(step).chain(LIMITS) {
+    for limit in 0..=u16::MAX {
         runs.at_limit(limit);
     }
     for _ in 0..SPOILED {
