@@ -83,10 +83,9 @@ fn compare(options: &Options) -> bool {
     println!("seed {}", options.seed);
     let mut found = Found::default();
     for (_, run) in subjects().filter(|(name, _)| options.selects(name)) {
-        for tally in run(options) {
-            tally.print();
-            found.add(&tally);
-        }
+        let tallies = run(options);
+        tallies.iter().for_each(Tally::print);
+        found.add(&tallies);
     }
     found.print();
     found.is_well()

@@ -100,10 +100,14 @@ pub struct Found {
 }
 
 impl Found {
-    pub fn add(&mut self, tally: &Tally) {
-        self.inputs += tally.inputs;
-        self.differences += tally.differences;
-        self.idle += u64::from(tally.inputs == 0);
+    /// Adds what a subject found.
+    pub fn add(&mut self, tallies: &[Tally]) {
+        self.idle += u64::from(tallies.is_empty());
+        for tally in tallies {
+            self.inputs += tally.inputs;
+            self.differences += tally.differences;
+            self.idle += u64::from(tally.inputs == 0);
+        }
     }
 
     pub fn print(&self) {
@@ -127,17 +131,18 @@ mod tests {
     use super::{Found, Tally};
     use crate::options::Options;
 
-    /// Whether tallies are well that compared these pairs of numbers.
+    /// Whether a subject is well whose tallies compared these pairs of numbers.
     fn well(tallies: &[&[(i64, i64)]]) -> bool {
         let options = Options::parse(std::iter::empty()).expect("no words");
-        let mut found = Found::default();
-        for pairs in tallies {
+        let tally = |pairs: &&[(i64, i64)]| {
             let mut tally = Tally::new(&options, "name", "what");
             for (ours, due) in *pairs {
                 tally.check(*ours, *due, || ());
             }
-            found.add(&tally);
-        }
+            tally
+        };
+        let mut found = Found::default();
+        found.add(&tallies.iter().map(tally).collect::<Vec<_>>());
         found.is_well()
     }
 
