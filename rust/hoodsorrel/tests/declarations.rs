@@ -1,11 +1,11 @@
-//! The declarations of src/raw.rs against the source of the libraries: every C function is declared, with the types of
-//! its arguments in their order; and every public call of the library has its Rust call.
+//! The declarations of src/raw.rs against the source of the libraries: every C function is declared, with its
+//! arguments by name and type in their order; and every public call of the library has its Rust call.
 
 use std::collections::BTreeMap;
 use std::fs;
 use std::path::{Path, PathBuf};
 
-/// The types of the arguments of each C function.
+/// The arguments of each C function.
 type Functions = BTreeMap<String, Vec<String>>;
 
 fn root() -> PathBuf {
@@ -26,14 +26,11 @@ fn texts(folder: &Path) -> Vec<String> {
     texts
 }
 
-/// `NAME: TYPE, NAME: TYPE` as types. Spaces and line ends do not count.
-fn types(arguments: &str) -> Vec<String> {
-    let arguments = arguments.split(',').filter(|text| !text.trim().is_empty());
-    arguments
-        .map(|argument| {
-            let (_, kind) = argument.split_once(':').expect("a type");
-            kind.split_whitespace().collect()
-        })
+/// `NAME: TYPE, NAME: TYPE` one by one, without spaces and line ends.
+fn arguments(text: &str) -> Vec<String> {
+    text.split(',')
+        .map(|argument| argument.split_whitespace().collect())
+        .filter(|argument: &String| !argument.is_empty())
         .collect()
 }
 
@@ -43,9 +40,9 @@ fn in_the_source(krate: &str) -> Functions {
     for text in texts(&root().join("crates").join(krate).join("src")) {
         for function in text.split("pub extern \"C\" fn ").skip(1) {
             let (name, rest) = function.split_once('(').expect("arguments");
-            let (arguments, rest) = rest.split_once(')').expect("their end");
+            let (text, rest) = rest.split_once(')').expect("their end");
             assert!(rest.starts_with(" -> i64"), "{name}");
-            functions.insert(name.into(), types(arguments));
+            functions.insert(name.into(), arguments(text));
         }
     }
     functions
@@ -61,20 +58,21 @@ fn declared() -> Functions {
     lines
         .filter_map(|line| line.split_once(" as "))
         .map(|(symbol, call)| {
-            let (_, arguments) = call.split_once('(').expect("arguments");
-            let all = types(arguments).into_iter();
+            let (_, text) = call.split_once('(').expect("arguments");
+            let all = arguments(text).into_iter();
             (symbol.trim().into(), all.flat_map(spread).collect())
         })
         .collect()
 }
 
-fn spread(kind: String) -> Vec<String> {
-    let of = |kinds: &[&str]| kinds.iter().map(|kind| kind.to_string()).collect();
-    match kind.as_str() {
-        "[f32;4]" => of(&["f32"; 4]),
-        "[u32;4]" => of(&["u32"; 4]),
-        "Given" => of(&["u32", "u32", "u32", "f32", "u32"]),
-        _ => vec![kind],
+fn spread(argument: String) -> Vec<String> {
+    match argument.as_str() {
+        "crop:[f32;4]" => arguments("top: f32, bottom: f32, left: f32, right: f32"),
+        "fields:[u32;4]" => arguments("t: u32, b: u32, l: u32, r: u32"),
+        "given:Given" => {
+            arguments("rings: u32, sectors: u32, cells: u32, radius: f32, face_width: u32")
+        }
+        _ => vec![argument],
     }
 }
 
