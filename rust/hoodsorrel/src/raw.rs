@@ -3,7 +3,7 @@
 //! A call that is lent `words` answers the number of words of its answer and stores them from
 //! `words[0]` on, or nothing where `words` is shorter; or `-k` for refusal k, which stores nothing;
 //! or [`NEEDS`] with the needed lengths from `words[0]` on; or [`NOT_MADE`] for a width above 32.
-//! The others answer a number itself. A float in a number, in words and in a lent `&mut [u32]` is
+//! The others answer a number itself, or `-k`. A float in a number, in words and in a lent `&mut [u32]` is
 //! its bit pattern; an eye is 0 for the left one and any other number for the right one.
 
 use std::slice;
