@@ -30,9 +30,9 @@ pub const CLOSE: [(u32, u32); 10] = [
 ];
 
 pub fn run(options: &Options) -> Vec<Tally> {
-    let what = "against what pano::sphere_indices_bounded and sphere_mesh_bounded make";
+    let what = "against the count of pano::sphere_indices_bounded and twice pano::vertex_count";
     let mut sphere = Tally::new(options, "sphere lengths", what);
-    let what = "against what pano::cubemap_indices and pano::cubemap_mesh make";
+    let what = "against pano::cubemap_index_count and five times pano::cubemap_vertex_count";
     let mut cube = Tally::new(options, "cube lengths", what);
     let mut random = Random::new(options.seed, NAME);
     spheres(&mut sphere, &mut random);
@@ -57,7 +57,7 @@ fn spheres(tally: &mut Tally, random: &mut Random) {
     }
 }
 
-/// The Rust has no call for the lengths: they are those of the lists that it makes.
+/// The Rust has no call for both lengths.
 pub fn sphere_due(rings: u32, sectors: u32, crop: Crop) -> Answer {
     if !grid_usable(rings, sectors) {
         return Answer::refused(GRID);
