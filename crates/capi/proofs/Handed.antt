@@ -13,7 +13,7 @@ use borrow.Author.Tests.{le-leb, lt-leb}
 use Rattle.bits.specs.Verdict.{Verdict, accepted, mapped}
 use Rattle.capi.specs.Answer.{codeOf, stored, wordsAfter, narrow, asked}
 use Rattle.capi.specs.Reply.{Says, usedWords}
-use Rattle.capi.specs.declared.reply.Reply.{Reply}
+use Rattle.capi.specs.declared.Reply.{Reply}
 use Rattle.capi.proofs.Stores.{stored-none}
 
 -- a reply says what an equal verdict says

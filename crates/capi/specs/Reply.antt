@@ -6,7 +6,7 @@ use lib.IntN.{ℤ}
 use lib.ListN.{length, take}
 use Rattle.bits.specs.Verdict.{Verdict}
 use Rattle.capi.specs.Answer.{codeOf, wordsOf}
-use Rattle.capi.specs.declared.reply.Reply.{Reply}
+use Rattle.capi.specs.declared.Reply.{Reply}
 
 -- the words that it uses
 abbrev pub usedWords : Reply → List ℕ

@@ -1,8 +1,8 @@
 // The calls of the byte cursor, four bytes as a word, and box headers.
-use super::reply::Reply;
-use super::reply::accept;
-use super::reply::decline;
-use super::reply::hand_out;
+use super::Reply;
+use super::accept;
+use super::decline;
+use super::hand_out;
 use bits::BoxHeader;
 use bits::ByteCursor;
 use bits::ByteRead;

@@ -1,8 +1,8 @@
 // The counts of vertices and indices.
-use super::reply::Reply;
-use super::reply::accept;
-use super::reply::decline;
-use super::reply::hand_out;
+use super::Reply;
+use super::accept;
+use super::decline;
+use super::hand_out;
 use payload::Counted;
 ghost use mathlib.Core.Path.{_≡_};
 ghost use Rattle.bits.specs.Verdict.{mapped};

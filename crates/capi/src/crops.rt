@@ -1,11 +1,11 @@
 // The calls on crops, and the readers and writers of equi and cbmp payloads.
-use super::reply::Reply;
-use super::reply::accept;
-use super::reply::decline;
-use super::reply::flag;
-use super::reply::hand_out;
-use super::reply::of_filled;
-use super::reply::side_words;
+use super::Reply;
+use super::accept;
+use super::decline;
+use super::flag;
+use super::hand_out;
+use super::of_filled;
+use super::side_words;
 use payload::Bounds;
 use payload::CbmpAnswer;
 use payload::EquiAnswer;

@@ -1,8 +1,8 @@
 // The calls of the bit cursor, and a sum of fields.
-use super::reply::Reply;
-use super::reply::accept;
-use super::reply::decline;
-use super::reply::hand_out;
+use super::Reply;
+use super::accept;
+use super::decline;
+use super::hand_out;
 use bits::BitCursor;
 use bits::FieldRead;
 use bits::TwoRead;

@@ -1,9 +1,9 @@
 // The calls that make the sphere's grid and the cube map.
-use super::reply::Reply;
-use super::reply::accept;
-use super::reply::decline;
-use super::reply::hand_out;
-use super::reply::of_filled;
+use super::Reply;
+use super::accept;
+use super::decline;
+use super::hand_out;
+use super::of_filled;
 use payload::Bounds;
 use payload::GridLengths;
 ghost use mathlib.Core.Path.{_≡_};

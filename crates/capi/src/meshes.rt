@@ -1,10 +1,10 @@
 // The calls on mesh lists and mesh bodies.
-use super::reply::Reply;
-use super::reply::accept;
-use super::reply::decline;
-use super::reply::hand_out;
-use super::reply::need;
-use super::reply::of_filled;
+use super::Reply;
+use super::accept;
+use super::decline;
+use super::hand_out;
+use super::need;
+use super::of_filled;
 use payload::Measured;
 use payload::MeshAnswer;
 use payload::MeshListSize;

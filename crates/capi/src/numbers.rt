@@ -1,6 +1,6 @@
 // The calls on numbers and floats.
-use super::reply::accept;
-use super::reply::hand_out;
+use super::accept;
+use super::hand_out;
 use bits::Running;
 ghost use mathlib.Core.Path.{_≡_};
 ghost use lib.IntN.{pos};

@@ -1,8 +1,8 @@
 // The calls that write.
-use super::reply::Reply;
-use super::reply::accept;
-use super::reply::hand_out;
-use super::reply::need;
+use super::Reply;
+use super::accept;
+use super::hand_out;
+use super::need;
 use bits::Put;
 ghost use mathlib.Core.Path.{_≡_};
 ghost use Rattle.bits.specs.Verdict.{mapped};

@@ -1,5 +1,5 @@
 // The calls on runs of delta fields: judging a run, and handing out the numbers of one that was judged before.
-use super::reply::flag;
+use super::flag;
 use bits::Run;
 use bits::RunCheck;
 ghost use mathlib.Core.Path.{_≡_};

@@ -1,10 +1,10 @@
 // The scene call.
-use super::reply::Reply;
-use super::reply::accept;
-use super::reply::decline;
-use super::reply::hand_out;
-use super::reply::need;
-use super::reply::side_words;
+use super::Reply;
+use super::accept;
+use super::decline;
+use super::hand_out;
+use super::need;
+use super::side_words;
 use scene::SceneAnswer;
 ghost use mathlib.Core.Path.{_≡_};
 ghost use mathlib.Core.List.{[], _∷_};

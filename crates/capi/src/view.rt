@@ -1,10 +1,10 @@
 // The viewer's small calls. A layout, a pair and a projection come as their raw numbers, an eye as 0 for the left one.
-use super::reply::Reply;
-use super::reply::accept;
-use super::reply::flag;
-use super::reply::hand_out;
-use super::reply::side_words;
-use super::reply::word;
+use super::Reply;
+use super::accept;
+use super::flag;
+use super::hand_out;
+use super::side_words;
+use super::word;
 use payload::AnaglyphPair;
 use payload::Eye;
 use payload::Patch;

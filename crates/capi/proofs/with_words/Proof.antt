@@ -3,8 +3,8 @@ use mir.Syntax.{w64}
 use mir.Facts.{toZ-ofZ}
 use Rattle.capi.proofs.Stores.{stored-held}
 use borrow.Author.Needs.{needs}
-use Rattle.capi.proofs.reply.with_words.Statement.{statement}
-use Rattle.capi.proofs.reply.with_words.Tie as tie
+use Rattle.capi.proofs.with_words.Statement.{statement}
+use Rattle.capi.proofs.with_words.Tie as tie
 
 slice-aggregate-store : tie.Need-slice-aggregate-store
 slice-aggregate-store c = search needs

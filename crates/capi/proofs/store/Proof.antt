@@ -6,8 +6,8 @@ use borrow.Author.Needs.{needs}
 use lib.ListN.{length, take}
 use lib.Seq.{sets, length-sets}
 use Rattle.capi.proofs.Stores.{stored-not, stored-next, stored-all}
-use Rattle.capi.proofs.reply.store.Statement.{statement}
-use Rattle.capi.proofs.reply.store.Tie as tie
+use Rattle.capi.proofs.store.Statement.{statement}
+use Rattle.capi.proofs.store.Tie as tie
 
 abbrev Inv-loop : tie.InvT-loop
 Inv-loop words₀ given i₀ words i = (i ≤ length given) × (words ≡ sets words₀ 0 (take i given))

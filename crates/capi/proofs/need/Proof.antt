@@ -1,8 +1,8 @@
 -- `need` meets its contract. Assumes nothing.
 use Rattle.capi.specs.Answer.{codeOf}
 use borrow.Author.Needs.{needs}
-use Rattle.capi.proofs.reply.need.Statement.{statement}
-use Rattle.capi.proofs.reply.need.Tie as tie
+use Rattle.capi.proofs.need.Statement.{statement}
+use Rattle.capi.proofs.need.Tie as tie
 
 with-words-requires : tie.Need-with-words-requires
 with-words-requires c κs = search needs

@@ -1,7 +1,7 @@
 -- `of_filled` meets its contract. Assumes nothing.
 use borrow.Author.Needs.{needs}
-use Rattle.capi.proofs.reply.of_filled.Statement.{statement}
-use Rattle.capi.proofs.reply.of_filled.Tie as tie
+use Rattle.capi.proofs.of_filled.Statement.{statement}
+use Rattle.capi.proofs.of_filled.Tie as tie
 
 enum-known-x : tie.Need-enum-known-x
 enum-known-x c = search needs

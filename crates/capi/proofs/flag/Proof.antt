@@ -1,6 +1,6 @@
 -- `flag` meets its contract. Assumes nothing.
-use Rattle.capi.proofs.reply.flag.Statement.{statement}
-use Rattle.capi.proofs.reply.flag.Tie as tie
+use Rattle.capi.proofs.flag.Statement.{statement}
+use Rattle.capi.proofs.flag.Tie as tie
 
 returns : tie.Need-returns
 returns c = rw (c .if1 .taken)

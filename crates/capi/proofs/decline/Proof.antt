@@ -3,8 +3,8 @@ use native.Mathlib.Omega.{arith}
 use Rattle.capi.specs.Answer.{codeOf}
 use Rattle.bits.proofs.BelowLaws.{below-fits, below-zero}
 use borrow.Author.Needs.{needs}
-use Rattle.capi.proofs.reply.decline.Statement.{statement}
-use Rattle.capi.proofs.reply.decline.Tie as tie
+use Rattle.capi.proofs.decline.Statement.{statement}
+use Rattle.capi.proofs.decline.Tie as tie
 
 cast-with-words : tie.Need-cast-with-words
 cast-with-words c = search needs

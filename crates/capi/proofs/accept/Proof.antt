@@ -5,8 +5,8 @@ use mir.Syntax.{w64}
 use mir.Facts.{toZ-pos}
 use Rattle.capi.specs.Answer.{codeOf}
 use borrow.Author.Needs.{needs}
-use Rattle.capi.proofs.reply.accept.Statement.{statement}
-use Rattle.capi.proofs.reply.accept.Tie as tie
+use Rattle.capi.proofs.accept.Statement.{statement}
+use Rattle.capi.proofs.accept.Tie as tie
 
 cast-with-words : tie.Need-cast-with-words
 cast-with-words c = search needs

@@ -2,8 +2,8 @@
 use mathlib.Core.Path.{sym}
 use lib.Seq.{length-take-le}
 use borrow.Author.Needs.{needs}
-use Rattle.capi.proofs.reply.hand_out.Statement.{statement}
-use Rattle.capi.proofs.reply.hand_out.Tie as tie
+use Rattle.capi.proofs.hand_out.Statement.{statement}
+use Rattle.capi.proofs.hand_out.Tie as tie
 
 array-share-prefix-given : tie.Need-array-share-prefix-given
 array-share-prefix-given c = search needs
