@@ -2,7 +2,7 @@
 use Prim.Native.Nat.{ℕ, _≤_, _<_}
 use mathlib.Core.Path.{_≡_}
 use borrow.Author.Tests.{eq-eqb, ne-eqb}
-use Rattle.replay.specs.Line.{readCall, readLength, judgementCall, judged}
+use Rattle.replay.specs.Line.{callNumbers, readCall, readLength, judgementCall, judged}
 use Rattle.replay.specs.declared.calls.Outcome.{Outcome}
 use Rattle.replay.specs.declared.calls.Outcome.the-variants as O
 use Rattle.replay.specs.declared.line.Reading.{Reading}
@@ -10,13 +10,13 @@ use Rattle.replay.specs.declared.line.Reading.the-variants as R
 use Rattle.replay.specs.declared.line.Judgement.{Judgement}
 use Rattle.replay.specs.declared.line.Judgement.the-variants as W
 
-pub read-parts : (r : Reading) (call n code sum m : ℕ) → r ≡ R.Call call n code sum → (readCall r < 52) × (readLength r ≤ m) → (call < 52) × (n ≤ m)
+pub read-parts : (r : Reading) (call n code sum m : ℕ) → r ≡ R.Call call n code sum → (readCall r < callNumbers) × (readLength r ≤ m) → (call < callNumbers) × (n ≤ m)
 read-parts r call n code sum m e h = rw e at h
 
-pub same-call : (r : Judgement) (call : ℕ) → r ≡ W.Same call → judgementCall r < 52 → call < 52
+pub same-call : (r : Judgement) (call : ℕ) → r ≡ W.Same call → judgementCall r < callNumbers → call < callNumbers
 same-call r call e h = rw e at h
 
-pub different-call : (r : Judgement) (call : ℕ) → r ≡ W.Different call → judgementCall r < 52 → call < 52
+pub different-call : (r : Judgement) (call : ℕ) → r ≡ W.Different call → judgementCall r < callNumbers → call < callNumbers
 different-call r call e h = rw e at h
 
 -- what an outcome is judged

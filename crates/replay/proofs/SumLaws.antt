@@ -1,5 +1,5 @@
 -- Sums, byte by byte and item by item. Assumes nothing.
-use Prim.Native.Nat.{ℕ, suc, _+_, _*_, _/_, _%_, _≤_, _<_}
+use Prim.Native.Nat.{ℕ, zero, suc, _+_, _-_, _*_, _/_, _%_, _≤_, _<_}
 use mathlib.Core.Path.{_≡_, refl, sym, _∙_, ap}
 use mathlib.Core.List.{List, [], _∷_, _++_, flatMap}
 use native.Mathlib.Nat.{div-add-mod', add-mul, mul-assoc, mul-comm, add-comm, add-mul-mod-self-right}
@@ -25,46 +25,41 @@ pub step-is : (h b : ℕ) → bitXor h b % 4294967296 * 16777619 % 4294967296 �
 unfolding step
 step-is h b = product-mod (bitXor h b) 16777619 4294967296
 
-pub two-is : (h x : ℕ) → step (step h (x / 256 % 256)) (x % 256) ≡ fnv h (bytesOf 2 x)
-unfolding fnv bytesOf
-two-is h x = refl
-
-pub four-is : (h x : ℕ) → fnv (fnv h (bytesOf 2 (x / 256 / 256))) (bytesOf 2 x) ≡ fnv h (bytesOf 4 x)
-unfolding fnv bytesOf
-four-is h x = refl
-
-pub eight-is : (h x : ℕ) → fnv (fnv h (bytesOf 4 (x / 256 / 256 / 256 / 256))) (bytesOf 4 x) ≡ fnv h (bytesOf 8 x)
-unfolding fnv bytesOf
-eight-is h x = refl
-
 fnv-append : (h : ℕ) (a b : List ℕ) → fnv h (a ++ b) ≡ fnv (fnv h a) b
 unfolding fnv
 fnv-append h [] b = refl
 fnv-append h (x ∷ a) b = fnv-append (step h x) a b
 
--- a loop's turn over bytes, and over items that f spells: h is the sum before it, n the sum after it and t the sum of all
-module _ (h n t : ℕ) (s : List ℕ) (i : ℕ) (k : i < length s) where
-  pub byte-turn : n ≡ step h (getD s i 0) → fnv h (drop i s) ≡ t → fnv n (drop (i + 1) s) ≡ t
-  unfolding fnv
-  byte-turn e v = rw (e, add-one) (sym (ap (fnv h) (drop-cons s i 0 k)) ∙ v)
+pub no-bytes : (h x : ℕ) → h ≡ fnv h (bytesOf 0 x)
+unfolding fnv bytesOf
+no-bytes h x = refl
 
-  pub item-turn : (f : ℕ → List ℕ) → n ≡ fnv h (f (getD s i 0)) → fnv h (flatMap f (drop i s)) ≡ t → fnv n (flatMap f (drop (i + 1) s)) ≡ t
+-- one byte more: n is the sum of the bytes before it, r the sum with it
+pub byte-more : (h x k n r : ℕ) → (k ≡ 0 → ⊥) → n ≡ fnv h (bytesOf (k - 1) (x / 256)) → r ≡ step n (x % 256) → r ≡ fnv h (bytesOf k x)
+unfolding fnv bytesOf
+byte-more h x zero n r f e q = absurd (f refl)
+byte-more h x (suc k) n r f e q =
+    let m : suc k - 1 ≡ k = omega arith in
+    q ∙ ap (λ (y : ℕ). step y (x % 256)) (rw m at e) ∙ sym (fnv-append h (bytesOf k (x / 256)) (x % 256 ∷ []))
+
+-- A loop over items of k bytes: the sum so far with the items that are left is the whole.
+abbrev pub SoFar : ℕ → ℕ → List ℕ → ℕ → ℕ → Type 0
+SoFar k h s sum i = (i ≤ length s) × (fnv sum (flatMap (bytesOf k) (drop i s)) ≡ fnv h (flatMap (bytesOf k) s))
+
+module _ (k h : ℕ) (s : List ℕ) (sum i : ℕ) where
+  -- a turn: n is the sum after it
+  pub so-far-next : (n : ℕ) → i < length s → n ≡ fnv sum (bytesOf k (getD s i 0)) → SoFar k h s sum i → SoFar k h s n (i + 1)
   unfolding flatMap
-  item-turn f e v =
-      rw (e, add-one)
-      (sym (fnv-append h (f (getD s i 0)) (flatMap f (drop (suc i) s)))
-      ∙ sym (ap (λ (l : List ℕ). fnv h (flatMap f l)) (drop-cons s i 0 k))
-      ∙ v)
+  so-far-next n l e v = (
+    omega arith,
+    rw (e, add-one)
+        (sym (fnv-append sum (bytesOf k (getD s i 0)) (flatMap (bytesOf k) (drop (suc i) s)))
+        ∙ sym (ap (λ (x : List ℕ). fnv sum (flatMap (bytesOf k) x)) (drop-cons s i 0 l))
+        ∙ v .1),
+  )
 
--- past the last one
-module _ (h t : ℕ) (s : List ℕ) (i : ℕ) (k : i ≤ length s) (l : length s ≤ i) where
-  past : drop i s ≡ []
-  past = let e : i ≡ length s = omega arith in rw e (drop-length s)
-
-  pub byte-end : fnv h (drop i s) ≡ t → h ≡ t
-  unfolding fnv
-  byte-end v = sym (ap (fnv h) past) ∙ v
-
-  pub item-end : (f : ℕ → List ℕ) → fnv h (flatMap f (drop i s)) ≡ t → h ≡ t
+  pub so-far-all : length s ≤ i → SoFar k h s sum i → sum ≡ fnv h (flatMap (bytesOf k) s)
   unfolding fnv flatMap
-  item-end f v = sym (ap (λ (x : List ℕ). fnv h (flatMap f x)) past) ∙ v
+  so-far-all l v =
+      let e : i ≡ length s = omega arith in
+      sym (ap (λ (x : List ℕ). fnv sum (flatMap (bytesOf k) x)) (ap (λ (n : ℕ). drop n s) e ∙ drop-length s)) ∙ v .1

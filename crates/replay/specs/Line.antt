@@ -9,6 +9,10 @@ use Rattle.replay.specs.declared.line.Reading.the-variants as R
 use Rattle.replay.specs.declared.line.Judgement.{Judgement}
 use Rattle.replay.specs.declared.line.Judgement.the-variants as W
 
+-- the calls' numbers are below this; 0 is that of a line that cannot be read
+abbrev pub callNumbers : ℕ
+callNumbers = 62
+
 abbrev pub readCall : Reading → ℕ
 readCall (R.Call call n code sum) = call
 readCall R.Bad = 0

@@ -12,6 +12,7 @@ mod grids;
 mod meshes;
 mod numbers;
 mod put;
+mod runs;
 mod scene_call;
 mod unpack;
 mod view;
@@ -25,27 +26,38 @@ pub enum Outcome {
     Unreadable,
 }
 
+// The numbers of the calls are below this. 0 is that of a line that cannot be read.
+pub const CALLS: usize = 62;
+
 // The words that are lent, as they are before a call.
 const WORDS: [u64; 8] = [0xa5a5_a5a5_a5a5_a5a5; 8];
 
 // The calls that are lent nothing.
-fn call_unlent(call: usize, args: &[u64; 10]) -> i64 {
+fn call_unlent(call: usize, args: &[u64; 10], data: &[u8]) -> i64 {
     match call {
         0x15 => crops::is_usable(args),
         0x1f => grids::padding_share(args),
+        0x35 | 0x36 => runs::check(call, args, data),
+        0x39 => byte_calls::word_of(args),
         0..=0x14 => numbers::unlent(call, args),
         _ => view::unlent(call, args),
     }
+}
+
+fn answer_unlent(call: usize, args: &[u64; 10], data: &[u8]) -> Outcome {
+    Outcome::Answer(answer_bits(call_unlent(call, args, data)), sum::EMPTY)
 }
 
 // The calls that are lent words alone.
 fn call_words(call: usize, args: &[u64; 10], data: &[u8], words: &mut [u64]) -> i64 {
     match call {
         0..=0x07 | 0x0b => byte_calls::worded(call, args, data, words),
-        0x08..=0x0a => fields::worded(call, args, data, words),
+        0x08..=0x0a | 0x34 => fields::worded(call, args, data, words),
         0x0d => numbers::stepped(args, words),
         0x16 | 0x18 => crops::parse(call, data, words),
-        0x20 => meshes::measure(data, words),
+        0x3d => crops::equi_crop(args, words),
+        0x20 | 0x3a => meshes::measure(call, data, words),
+        0x3b | 0x3c => grids::lengths(call, args, words),
         0x26..=0x29 => counts::worded(call, args, words),
         _ => view::worded(call, args, words),
     }
@@ -87,13 +99,26 @@ fn answer_numbers(call: usize, args: &[u64; 10], out: &mut [u16]) -> Outcome {
     Outcome::Answer(answer_bits(r), sum::add_u16s(sum::of_words(&words), out))
 }
 
-fn lend_numbers(call: usize, args: &[u64; 10], length: u64) -> Outcome {
+// The calls that hand out the numbers of a run, which are lent no words.
+fn answer_run(call: usize, args: &[u64; 10], data: &[u8], out: &mut [u16]) -> Outcome {
+    let r = runs::fill(call, args, data, out);
+    Outcome::Answer(answer_bits(r), sum::add_u16s(sum::EMPTY, out))
+}
+
+fn call_numbers(call: usize, args: &[u64; 10], data: &[u8], out: &mut [u16]) -> Outcome {
+    match call {
+        0x37 | 0x38 => answer_run(call, args, data, out),
+        _ => answer_numbers(call, args, out),
+    }
+}
+
+fn lend_numbers(call: usize, args: &[u64; 10], data: &[u8], length: u64) -> Outcome {
     if 4096 < length {
         return Outcome::Unreadable;
     }
     let n = length as usize;
     let mut out = [0xa5a5u16; 4096];
-    answer_numbers(call, args, &mut out[..n])
+    call_numbers(call, args, data, &mut out[..n])
 }
 
 // The calls that make floats or records alone.
@@ -191,15 +216,16 @@ fn lend_drawing(
     )
 }
 
-// Makes a call, 1 to 51. Which argument is a length goes by the call.
+// Makes a call. Which argument is a length goes by the call.
 pub fn call(call: usize, args: &[u64; 10], data: &[u8]) -> Outcome {
     match call {
         0x13 | 0x14 => lend_out(call, args, args[0]),
         0x17 => lend_out(call, args, args[4]),
         0x19 => lend_out(call, args, args[1]),
-        0x1a => lend_numbers(call, args, args[2]),
-        0x1b => lend_numbers(call, args, args[6]),
-        0x1d => lend_numbers(call, args, args[1]),
+        0x1a | 0x38 => lend_numbers(call, args, data, args[2]),
+        0x1b => lend_numbers(call, args, data, args[6]),
+        0x1d => lend_numbers(call, args, data, args[1]),
+        0x37 => lend_numbers(call, args, data, args[3]),
         0x1c => lend_u32s(call, args, data, args[2], 4096),
         0x1e => lend_u32s(call, args, data, args[3], 4096),
         0x22 => lend_u32s(call, args, data, args[0], 512),
@@ -207,8 +233,9 @@ pub fn call(call: usize, args: &[u64; 10], data: &[u8]) -> Outcome {
         0x25 => lend_drawing(call, args, data, args[6], args[7], args[8]),
         0x23 | 0x24 => meshes::mesh_body(call, args, data),
         0x0c | 0x0e..=0x12 | 0x15 | 0x1f | 0x2a | 0x2b | 0x2d | 0x2f | 0x30 | 0x32 | 0x33 => {
-            Outcome::Answer(answer_bits(call_unlent(call, args)), sum::EMPTY)
+            answer_unlent(call, args, data)
         }
+        0x35 | 0x36 | 0x39 => answer_unlent(call, args, data),
         _ => answer_words(call, args, data),
     }
 }

@@ -1,4 +1,5 @@
 // A line of the list: its call, its arguments, its data, and the answer that is due.
+use crate::calls::CALLS;
 use crate::calls::Outcome;
 use crate::calls::call;
 use crate::text::Bytes;
@@ -8,7 +9,7 @@ use crate::text::number_at;
 ghost use mathlib.Core.Path.{_≡_};
 ghost use Prim.Native.Nat.{_≤_, _<_};
 ghost use lib.ListN.{length};
-ghost use Rattle.replay.specs.Line.{readCall, readLength, judgementCall, judged};
+ghost use Rattle.replay.specs.Line.{callNumbers, readCall, readLength, judgementCall, judged};
 
 // A place of the line, or that an argument cannot be read.
 enum Place {
@@ -32,11 +33,12 @@ pub enum Judgement {
 // How many arguments a call has.
 fn argument_count(call: usize) -> u64 {
     match call {
-        0x01 | 0x16 | 0x18 | 0x20 => 0,
-        0x04 | 0x05 | 0x0a | 0x0d | 0x19 | 0x1d | 0x1f | 0x26 | 0x27 | 0x2c | 0x2e => 2,
-        0x0e | 0x13 | 0x1a | 0x1c | 0x21 => 3,
-        0x14 | 0x15 | 0x1e | 0x23 => 4,
+        0x01 | 0x16 | 0x18 | 0x20 | 0x3a => 0,
+        0x04 | 0x05 | 0x0a | 0x0d | 0x19 | 0x1d | 0x1f | 0x26 | 0x27 | 0x2c | 0x2e | 0x34 => 2,
+        0x0e | 0x13 | 0x1a | 0x1c | 0x21 | 0x35 | 0x36 | 0x38 | 0x3c => 3,
+        0x14 | 0x15 | 0x1e | 0x23 | 0x37 | 0x39 | 0x3d => 4,
         0x17 | 0x24 => 5,
+        0x3b => 6,
         0x1b => 7,
         0x25 => 9,
         _ => 1,
@@ -47,7 +49,7 @@ fn argument_count(call: usize) -> u64 {
 fn wide_arguments(call: usize) -> usize {
     match call {
         0x04 | 0x05 | 0x13 | 0x14 => 2,
-        0x02 | 0x03 | 0x06..=0x0b => 1,
+        0x02 | 0x03 | 0x06..=0x0b | 0x34..=0x38 => 1,
         _ => 0,
     }
 }
@@ -87,8 +89,8 @@ fn read_arguments(
 
 // Reads the data and the due answer from a place on.
 fn read_rest(line: &[u8], call: usize, at: usize, data: &mut [u8]) -> Reading
-    requires { ⌜ call < 52 ⌝ }
-    ensures { λ r. ⌜ (readCall r < 52) × (readLength r ≤ length (now («data» .entry))) ⌝ }
+    requires { ⌜ call < callNumbers ⌝ }
+    ensures { λ r. ⌜ (readCall r < callNumbers) × (readLength r ≤ length (now («data» .entry))) ⌝ }
 {
     match bytes_at(line, at, data) {
         Bytes::Bad => Reading::Bad,
@@ -104,8 +106,8 @@ fn read_rest(line: &[u8], call: usize, at: usize, data: &mut [u8]) -> Reading
 
 // Reads the number of arguments of a call, which has to be the call's, and all that comes after it.
 fn read_call(line: &[u8], call: usize, at: usize, args: &mut [u64; 10], data: &mut [u8]) -> Reading
-    requires { ⌜ call < 52 ⌝ }
-    ensures { λ r. ⌜ (readCall r < 52) × (readLength r ≤ length (now («data» .entry))) ⌝ }
+    requires { ⌜ call < callNumbers ⌝ }
+    ensures { λ r. ⌜ (readCall r < callNumbers) × (readLength r ≤ length (now («data» .entry))) ⌝ }
 {
     match number_at(line, at) {
         Number::Bad => Reading::Bad,
@@ -123,7 +125,7 @@ fn read_call(line: &[u8], call: usize, at: usize, args: &mut [u64; 10], data: &m
 
 // Reads a line that is no comment.
 fn read_line(line: &[u8], args: &mut [u64; 10], data: &mut [u8]) -> Reading
-    ensures { λ r. ⌜ (readCall r < 52) × (readLength r ≤ length (now («data» .entry))) ⌝ }
+    ensures { λ r. ⌜ (readCall r < callNumbers) × (readLength r ≤ length (now («data» .entry))) ⌝ }
 {
     match number_at(line, 0) {
         Number::Bad => Reading::Bad,
@@ -131,7 +133,7 @@ fn read_line(line: &[u8], args: &mut [u64; 10], data: &mut [u8]) -> Reading
             if number == 0 {
                 return Reading::Bad;
             }
-            if 51 < number {
+            if CALLS as u64 <= number {
                 return Reading::Bad;
             }
             read_call(line, number as usize, next, args, data)
@@ -141,9 +143,9 @@ fn read_line(line: &[u8], args: &mut [u64; 10], data: &mut [u8]) -> Reading
 
 // Whether the outcome of a call is the due one.
 fn compared(call: usize, code: u64, sum: u64, outcome: Outcome) -> Judgement
-    requires { ⌜ call < 52 ⌝ }
+    requires { ⌜ call < callNumbers ⌝ }
     ensures { λ r. ⌜ r ≡ judged call code sum outcome ⌝ }
-    ensures { λ r. ⌜ judgementCall r < 52 ⌝ }
+    ensures { λ r. ⌜ judgementCall r < callNumbers ⌝ }
 {
     match outcome {
         Outcome::Unreadable => Judgement::Different(0),
@@ -161,7 +163,7 @@ fn compared(call: usize, code: u64, sum: u64, outcome: Outcome) -> Judgement
 
 // Makes the call of a line again.
 fn replayed(line: &[u8]) -> Judgement
-    ensures { λ r. ⌜ judgementCall r < 52 ⌝ }
+    ensures { λ r. ⌜ judgementCall r < callNumbers ⌝ }
 {
     let mut args = [0u64; 10];
     let mut data = [0u8; 2048];
@@ -174,7 +176,7 @@ fn replayed(line: &[u8]) -> Judgement
 }
 
 pub fn judge(line: &[u8]) -> Judgement
-    ensures { λ r. ⌜ judgementCall r < 52 ⌝ }
+    ensures { λ r. ⌜ judgementCall r < callNumbers ⌝ }
 {
     if line.len() == 0 {
         return Judgement::Different(0);

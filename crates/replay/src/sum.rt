@@ -1,7 +1,7 @@
-// FNV-1a, 32 bits, over bytes and over items that are spelled big end first.
+// FNV-1a, 32 bits, over items that are spelled big end first.
 ghost use mathlib.Core.Path.{_≡_};
-ghost use Rattle.bits.specs.Put.{bytesOf};
 ghost use mathlib.Core.List.{flatMap};
+ghost use Rattle.bits.specs.Put.{bytesOf};
 ghost use Rattle.replay.specs.Sum.{step, fnv};
 
 // The sum of no bytes.
@@ -13,32 +13,23 @@ fn add_byte(h: u64, b: u64) -> u64
     (h ^ b) % 0x1_0000_0000 * 0x0100_0193 % 0x1_0000_0000
 }
 
-// The two low bytes of x, and so on.
-fn add_two(h: u64, x: u64) -> u64
-    ensures { λ r. ⌜ r ≡ fnv h (bytesOf 2 x) ⌝ }
+// The low bytes of x, so many of them.
+fn add_number(h: u64, x: u64, bytes: u32) -> u64
+    ensures { λ r. ⌜ r ≡ fnv h (bytesOf bytes x) ⌝ }
 {
-    add_byte(add_byte(h, x / 256 % 256), x % 256)
-}
-
-fn add_four(h: u64, x: u64) -> u64
-    ensures { λ r. ⌜ r ≡ fnv h (bytesOf 4 x) ⌝ }
-{
-    add_two(add_two(h, x / 256 / 256), x)
-}
-
-fn add_eight(h: u64, x: u64) -> u64
-    ensures { λ r. ⌜ r ≡ fnv h (bytesOf 8 x) ⌝ }
-{
-    add_four(add_four(h, x / 256 / 256 / 256 / 256), x)
+    if bytes == 0 {
+        return h;
+    }
+    add_byte(add_number(h, x / 256, bytes - 1), x % 256)
 }
 
 pub fn add_u8s(h: u64, s: &[u8]) -> u64
-    ensures { λ r. ⌜ r ≡ fnv h (now (s .entry)) ⌝ }
+    ensures { λ r. ⌜ r ≡ fnv h (flatMap (bytesOf 1) (now (s .entry))) ⌝ }
 {
     let mut sum = h;
     let mut i = 0;
     while i < s.len() {
-        sum = add_byte(sum, s[i] as u64);
+        sum = add_number(sum, s[i] as u64, 1);
         i += 1;
     }
     sum
@@ -50,7 +41,7 @@ pub fn add_u16s(h: u64, s: &[u16]) -> u64
     let mut sum = h;
     let mut i = 0;
     while i < s.len() {
-        sum = add_two(sum, s[i] as u64);
+        sum = add_number(sum, s[i] as u64, 2);
         i += 1;
     }
     sum
@@ -62,7 +53,7 @@ pub fn add_u32s(h: u64, s: &[u32]) -> u64
     let mut sum = h;
     let mut i = 0;
     while i < s.len() {
-        sum = add_four(sum, s[i] as u64);
+        sum = add_number(sum, s[i] as u64, 4);
         i += 1;
     }
     sum
@@ -74,7 +65,7 @@ fn add_u64s(h: u64, s: &[u64]) -> u64
     let mut sum = h;
     let mut i = 0;
     while i < s.len() {
-        sum = add_eight(sum, s[i]);
+        sum = add_number(sum, s[i], 8);
         i += 1;
     }
     sum

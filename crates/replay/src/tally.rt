@@ -1,4 +1,5 @@
 // The walk over the list's lines, and the counts.
+use crate::calls::CALLS;
 use crate::line::Judgement;
 use crate::line::judge;
 use crate::print::print_counts;
@@ -7,10 +8,11 @@ use crate::print::print_total;
 ghost use mathlib.Core.Path.{_≡_};
 ghost use Prim.Native.Nat.{_+_, _%_, _^_, _<_};
 ghost use lib.ListN.{getD, set};
+ghost use Rattle.replay.specs.Line.{callNumbers};
 
 // One more of a call. A list has fewer than 2^64 lines.
-fn count(counts: &mut [u64; 52], call: usize)
-    requires { ⌜ call < 52 ⌝ }
+fn count(counts: &mut [u64; CALLS], call: usize)
+    requires { ⌜ call < callNumbers ⌝ }
     ensures { λ _. ⌜ now (counts .exit)
         ≡ set (now (counts .entry)) call ((getD (now (counts .entry)) call 0 + 1) % 2 ^ 64) ⌝ }
 {
@@ -18,7 +20,7 @@ fn count(counts: &mut [u64; 52], call: usize)
 }
 
 // Counts a line, and answers whether it differs.
-fn note(line: &[u8], same: &mut [u64; 52], different: &mut [u64; 52]) -> bool {
+fn note(line: &[u8], same: &mut [u64; CALLS], different: &mut [u64; CALLS]) -> bool {
     match judge(line) {
         Judgement::Comment => false,
         Judgement::Same(call) => {
@@ -41,7 +43,7 @@ fn show(line: u64, differing: u64) -> bool {
 }
 
 // Counts every line.
-fn walk(text: &[u8], same: &mut [u64; 52], different: &mut [u64; 52]) -> bool {
+fn walk(text: &[u8], same: &mut [u64; CALLS], different: &mut [u64; CALLS]) -> bool {
     let mut at: usize = 0;
     let mut line: u64 = 0;
     let mut differing: u64 = 0;
@@ -59,10 +61,10 @@ fn walk(text: &[u8], same: &mut [u64; 52], different: &mut [u64; 52]) -> bool {
     true
 }
 
-fn sum_of(counts: &[u64; 52]) -> u64 {
+fn sum_of(counts: &[u64; CALLS]) -> u64 {
     let mut total: u64 = 0;
     let mut i: usize = 0;
-    while i < 52 {
+    while i < CALLS {
         total = std::num::wrapping_add_u64(total, counts[i]);
         i += 1;
     }
@@ -70,9 +72,9 @@ fn sum_of(counts: &[u64; 52]) -> u64 {
 }
 
 // The lines of the calls from 1 on.
-fn print_calls(same: &[u64; 52], different: &[u64; 52]) -> bool {
+fn print_calls(same: &[u64; CALLS], different: &[u64; CALLS]) -> bool {
     let mut call: usize = 1;
-    while call < 52 {
+    while call < CALLS {
         if !print_counts(call, same[call], different[call]) {
             return false;
         }
@@ -90,8 +92,8 @@ fn print_unreadable(different: u64) -> bool {
 }
 
 pub fn replay(text: &[u8]) -> bool {
-    let mut same = [0u64; 52];
-    let mut different = [0u64; 52];
+    let mut same = [0u64; CALLS];
+    let mut different = [0u64; CALLS];
     walk(text, &mut same, &mut different)
         && print_calls(&same, &different)
         && print_unreadable(different[0])

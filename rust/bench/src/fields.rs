@@ -1,4 +1,4 @@
-//! Nanoseconds per field: the reference's `BitReader` and `probe_sum_fields` over one buffer.
+//! Nanoseconds per field: the reference's `BitReader` and `sum_fields` over one buffer.
 
 use std::hint::black_box;
 
@@ -56,5 +56,5 @@ fn rust(data: &[u8], width: u32, count: u64) -> Option<u64> {
 
 fn ours(data: &[u8], width: u32, count: u64) -> Option<u64> {
     let mut words = [0];
-    (probe_sys::sum_fields(data, width, count, &mut words) == 1).then_some(words[0])
+    (hoodsorrel::raw::sum_fields(data, width, count, &mut words) == 1).then_some(words[0])
 }

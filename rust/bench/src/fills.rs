@@ -2,7 +2,7 @@
 
 use std::hint::black_box;
 
-use probe_sys::Crop;
+use hoodsorrel::raw::Crop;
 use reference::pano::{self, Bounds, VERTEX_FLOATS};
 
 use crate::timing::medians;
@@ -97,7 +97,7 @@ fn rust_mesh(out: &mut [u32]) -> Option<u64> {
 
 fn our_mesh(out: &mut [u32]) -> Option<u64> {
     let mut words = [0];
-    let code = probe_sys::cubemap_mesh(
+    let code = hoodsorrel::raw::cubemap_mesh(
         black_box(CELLS),
         black_box(RADIUS),
         black_box(PADDING),
@@ -113,7 +113,7 @@ fn rust_cube(out: &mut [u16]) -> Option<u64> {
 
 fn our_cube(out: &mut [u16]) -> Option<u64> {
     let mut words = [0];
-    let code = probe_sys::cubemap_indices(black_box(CELLS), out, &mut words);
+    let code = hoodsorrel::raw::cubemap_indices(black_box(CELLS), out, &mut words);
     (code == 1).then_some(words[0])
 }
 
@@ -123,7 +123,8 @@ fn rust_sphere(out: &mut [u16]) -> Option<u64> {
 
 fn our_sphere(out: &mut [u16]) -> Option<u64> {
     let mut words = [0];
-    let code = probe_sys::sphere_indices(black_box(RINGS), black_box(SECTORS), out, &mut words);
+    let code =
+        hoodsorrel::raw::sphere_indices(black_box(RINGS), black_box(SECTORS), out, &mut words);
     (code == 1).then_some(words[0])
 }
 
@@ -141,7 +142,7 @@ fn rust_indices(crop: Crop, out: &mut [u16]) -> Option<u64> {
 
 fn our_indices(crop: Crop, out: &mut [u16]) -> Option<u64> {
     let mut words = [0];
-    let code = probe_sys::sphere_indices_bounded(
+    let code = hoodsorrel::raw::sphere_indices_bounded(
         black_box(RINGS),
         black_box(SECTORS),
         black_box(crop),

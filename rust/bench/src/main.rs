@@ -1,4 +1,4 @@
-//! Times of the reference and of libprobe.a on the same data, the two sides in turn.
+//! Times of the reference and of the library on the same data, the two sides in turn.
 //!
 //! `bench` prints the tables. `bench once rust|ours small|random|tiny` runs one side of the mesh reader once, in
 //! `meshes::counted`, for an instruction counter, and `bench once rust|ours writer small|random` one of the mesh writer,

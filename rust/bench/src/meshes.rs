@@ -103,7 +103,7 @@ fn row(name: &str, payload: &[u8], runs: usize) -> Result<(), String> {
 
 fn needed(payload: &[u8]) -> Option<Buffers> {
     let mut words = [0; 6];
-    if probe_sys::measure_meshes(payload, &mut words) != 6 {
+    if hoodsorrel::raw::measure_meshes(payload, &mut words) != 6 {
         return None;
     }
     let [.., numbers, floats, records] = words.map(|n| n as usize);
@@ -129,7 +129,7 @@ fn ours(payload: &[u8], buffers: &mut Buffers) -> Option<u64> {
         records,
     } = buffers;
     let mut words = [0; 8];
-    let code = probe_sys::parse_meshes(payload, numbers, floats, records, &mut words);
+    let code = hoodsorrel::raw::parse_meshes(payload, numbers, floats, records, &mut words);
     (code == 6).then_some(words[2])
 }
 

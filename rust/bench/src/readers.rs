@@ -46,7 +46,7 @@ pub fn table() -> Result<(), String> {
         &payload,
         vec![0; RECORDS],
         rust_list,
-        recorded,
+        |payload, lent| recorded(payload, lent),
     )?;
     let body = &payload[HEADER..];
     let tables = needed(body).ok_or("not measured: parse_mesh")?;
@@ -96,22 +96,22 @@ fn points(mesh: &mesh::Mesh) -> u64 {
 
 fn measured(payload: &[u8], (): &mut ()) -> Option<u64> {
     let mut words = [0; 6];
-    let code = probe_sys::measure_meshes(payload, &mut words);
+    let code = hoodsorrel::raw::measure_meshes(payload, &mut words);
     (code == 6).then_some(words[2])
 }
 
-fn recorded(payload: &[u8], lent: &mut Vec<u32>) -> Option<u64> {
+fn recorded(payload: &[u8], lent: &mut [u32]) -> Option<u64> {
     let mut words = [0; 3];
-    let code = probe_sys::mesh_records(payload, lent, &mut words);
+    let code = hoodsorrel::raw::mesh_records(payload, lent, &mut words);
     (code == 3).then_some(words[2])
 }
 
 /// Tables of the lengths that are asked for on empty ones.
 fn needed(body: &[u8]) -> Option<Tables> {
     let mut words = [0; 4];
-    let code = probe_sys::parse_mesh(body, &mut [], &mut [], &mut [], &mut [], &mut words);
+    let code = hoodsorrel::raw::parse_mesh(body, &mut [], &mut [], &mut [], &mut [], &mut words);
     let [pool, coordinates, submeshes, points] = words.map(|n| n as usize);
-    (code == probe_sys::NEEDS).then(|| Tables {
+    (code == hoodsorrel::raw::NEEDS).then(|| Tables {
         pool: vec![0; pool],
         coordinates: vec![0; coordinates],
         submeshes: vec![0; submeshes],
@@ -127,6 +127,6 @@ fn tabled(body: &[u8], lent: &mut Tables) -> Option<u64> {
         submeshes,
         points,
     } = lent;
-    let code = probe_sys::parse_mesh(body, pool, coordinates, submeshes, points, &mut words);
+    let code = hoodsorrel::raw::parse_mesh(body, pool, coordinates, submeshes, points, &mut words);
     (code == 4).then_some(words[3])
 }

@@ -2,7 +2,7 @@
 
 use std::hint::black_box;
 
-use probe_sys::Given;
+use hoodsorrel::Given;
 use reference::mesh::{self, Spherical};
 use reference::pano::{self, VERTEX_FLOATS};
 
@@ -103,7 +103,7 @@ fn needed(kind: u32, payload: &[u8], (_, floats_each): Rust) -> Option<Buffers> 
         0 => pano::vertex_count(RINGS, SECTORS),
         _ => pano::cubemap_vertex_count(CELLS),
     };
-    (code == probe_sys::NEEDS).then(|| Buffers {
+    (code == hoodsorrel::raw::NEEDS).then(|| Buffers {
         numbers: vec![0; numbers],
         floats: vec![0; floats],
         mesh: vec![0.0; floats_each * vertices],
@@ -145,7 +145,7 @@ fn call(
     words: &mut [u64],
 ) -> i64 {
     let given = black_box(GIVEN);
-    probe_sys::scene(kind, payload, given, numbers, floats, &mut [], words)
+    hoodsorrel::raw::scene(kind, payload, given, numbers, floats, &mut [], words)
 }
 
 fn rust_sphere(payload: &[u8], buffers: &mut Buffers) -> Option<usize> {

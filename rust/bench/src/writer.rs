@@ -86,7 +86,7 @@ fn row(name: &str, steps: Steps) -> Result<(), String> {
 fn buffer(tables: &Tables) -> Option<Vec<u8>> {
     let mut words = [0];
     let code = call(tables, &mut [], &mut words);
-    (code == probe_sys::NEEDS).then(|| vec![0; words[0] as usize])
+    (code == hoodsorrel::raw::NEEDS).then(|| vec![0; words[0] as usize])
 }
 
 /// The size of the box.
@@ -101,7 +101,7 @@ fn ours(tables: &Tables, out: &mut [u8]) -> Option<usize> {
 }
 
 fn call(tables: &Tables, out: &mut [u8], words: &mut [u64]) -> i64 {
-    probe_sys::write_mesh(
+    hoodsorrel::raw::write_mesh(
         &tables.pool,
         &tables.coordinates,
         &tables.submeshes,

@@ -2,9 +2,9 @@
 
 use std::fmt::{Debug, Display};
 
-use crate::answer::{ask, ask_amply, Answer, Reply};
+use crate::inputs::random::Random;
+use crate::lent::answer::{ask, ask_amply, Answer, Reply};
 use crate::options::Options;
-use crate::random::Random;
 
 const MOST_SHOWN: usize = 3;
 
@@ -27,14 +27,6 @@ impl Tally {
             shown: Vec::new(),
             lent: Random::new(options.seed, "lent words"),
         }
-    }
-
-    pub fn inputs(&self) -> u64 {
-        self.inputs
-    }
-
-    pub fn differences(&self) -> u64 {
-        self.differences
     }
 
     /// Counts one input. `input` is only formed to show a difference.
@@ -95,5 +87,75 @@ impl Tally {
         for line in &self.shown {
             println!("  {line}");
         }
+    }
+}
+
+/// What all comparisons found together.
+#[derive(Default)]
+pub struct Found {
+    inputs: u64,
+    differences: u64,
+    /// Comparisons that ran on no input.
+    idle: u64,
+}
+
+impl Found {
+    /// Adds what a subject found.
+    pub fn add(&mut self, tallies: &[Tally]) {
+        self.idle += u64::from(tallies.is_empty());
+        for tally in tallies {
+            self.inputs += tally.inputs;
+            self.differences += tally.differences;
+            self.idle += u64::from(tally.inputs == 0);
+        }
+    }
+
+    pub fn print(&self) {
+        println!(
+            "compared {} inputs, {} differences",
+            self.inputs, self.differences
+        );
+        if self.idle > 0 {
+            println!("{} comparisons ran on no input", self.idle);
+        }
+    }
+
+    /// Every comparison ran on some input and found no difference, and there was one.
+    pub fn is_well(&self) -> bool {
+        self.inputs > 0 && self.differences == 0 && self.idle == 0
+    }
+}
+
+#[cfg(test)]
+mod tests {
+    use super::{Found, Tally};
+    use crate::options::Options;
+
+    /// Whether a subject is well whose tallies compared these pairs of numbers.
+    fn well(tallies: &[&[(i64, i64)]]) -> bool {
+        let options = Options::parse(std::iter::empty()).expect("no words");
+        let tally = |pairs: &&[(i64, i64)]| {
+            let mut tally = Tally::new(&options, "name", "what");
+            for (ours, due) in *pairs {
+                tally.check(*ours, *due, || ());
+            }
+            tally
+        };
+        let mut found = Found::default();
+        found.add(&tallies.iter().map(tally).collect::<Vec<_>>());
+        found.is_well()
+    }
+
+    #[test]
+    fn no_difference_is_well() {
+        assert!(well(&[&[(1, 1)], &[(2, 2), (3, 3)]]));
+        assert!(!well(&[&[(1, 1)], &[(2, 2), (3, 4)]]));
+    }
+
+    #[test]
+    fn no_input_is_not() {
+        assert!(!well(&[]));
+        assert!(!well(&[&[]]));
+        assert!(!well(&[&[(1, 1)], &[]]));
     }
 }

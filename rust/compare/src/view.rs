@@ -2,11 +2,14 @@
 
 use reference::pano::{self, AnaglyphPair, Eye, Projection, StereoLayout};
 
-use crate::answer::Answer;
+use crate::bits::run_on::boundaries;
+use crate::inputs::sweep::{float_sweep, near};
+use crate::lent::answer::Answer;
 use crate::options::Options;
-use crate::run_on::boundaries;
-use crate::sweep::{float_sweep, near};
 use crate::tally::Tally;
+use crate::Subject;
+
+pub const SUBJECTS: &[Subject] = &[("view", run)];
 
 const NAME: &str = "view";
 const DEFAULT_FOV_BITS: u32 = 0x41CE_147B;
@@ -17,7 +20,7 @@ const ROUNDS: u32 = 100;
 /// Where the field of view becomes its largest and its smallest.
 pub const ZOOM_ENDS: [f32; 2] = [0.2576, 2.576];
 
-pub fn run(options: &Options) -> Vec<Tally> {
+fn run(options: &Options) -> Vec<Tally> {
     let what =
         "against pano's from_raw, is_windowed, is_panoramic, bounds, uv_window, anaglyph_mix";
     let mut tally = Tally::new(options, NAME, what);
@@ -45,16 +48,18 @@ pub fn window_due(raw: u32, eye: u32) -> Answer {
 }
 
 fn layouts(tally: &mut Tally, raw: u32) {
-    tally.check(probe_sys::layout_from_raw(raw), layout_due(raw), || {
-        ("StereoLayout::from_raw", raw)
-    });
-    tally.check(probe_sys::is_windowed(raw), windowed_due(raw), || {
+    tally.check(
+        hoodsorrel::raw::layout_from_raw(raw),
+        layout_due(raw),
+        || ("StereoLayout::from_raw", raw),
+    );
+    tally.check(hoodsorrel::raw::is_windowed(raw), windowed_due(raw), || {
         ("is_windowed", raw)
     });
     for eye in EYES {
         tally.call(
             &window_due(raw, eye),
-            |words| probe_sys::uv_window(raw, eye, words),
+            |words| hoodsorrel::raw::uv_window(raw, eye, words),
             || ("uv_window", raw, eye),
         );
     }
@@ -70,13 +75,13 @@ pub fn mix_due(raw: u32, eye: u32) -> Answer {
 }
 
 fn pairs(tally: &mut Tally, raw: u32) {
-    tally.check(probe_sys::pair_from_raw(raw), pair_due(raw), || {
+    tally.check(hoodsorrel::raw::pair_from_raw(raw), pair_due(raw), || {
         ("AnaglyphPair::from_raw", raw)
     });
     for eye in EYES {
         tally.call(
             &mix_due(raw, eye),
-            |words| probe_sys::anaglyph_mix(raw, eye, words),
+            |words| hoodsorrel::raw::anaglyph_mix(raw, eye, words),
             || ("anaglyph_mix", raw, eye),
         );
     }
@@ -99,16 +104,18 @@ pub fn bounds_due(raw: u32) -> Answer {
 
 fn projections(tally: &mut Tally, raw: u32) {
     tally.check(
-        probe_sys::projection_from_raw(raw),
+        hoodsorrel::raw::projection_from_raw(raw),
         projection_due(raw),
         || ("Projection::from_raw", raw),
     );
-    tally.check(probe_sys::is_panoramic(raw), panoramic_due(raw), || {
-        ("is_panoramic", raw)
-    });
+    tally.check(
+        hoodsorrel::raw::is_panoramic(raw),
+        panoramic_due(raw),
+        || ("is_panoramic", raw),
+    );
     tally.call(
         &bounds_due(raw),
-        |words| probe_sys::projection_bounds(raw, words),
+        |words| hoodsorrel::raw::projection_bounds(raw, words),
         || ("bounds", raw),
     );
 }
@@ -133,7 +140,7 @@ fn zooms(options: &Options) -> Tally {
     let mut tally = Tally::new(options, "fov_for_zoom", what);
     let mut check = |bits: u32| {
         let zoom = f32::from_bits(bits);
-        tally.check(probe_sys::fov_for_zoom(zoom), fov_due(zoom), || bits);
+        tally.check(hoodsorrel::raw::fov_for_zoom(zoom), fov_due(zoom), || bits);
     };
     float_sweep(options, "fov_for_zoom", &mut check);
     for end in ZOOM_ENDS {
@@ -147,7 +154,7 @@ fn fovs(options: &Options) -> Tally {
     let mut tally = Tally::new(options, "zoom_for_fov", what);
     float_sweep(options, "zoom_for_fov", |bits| {
         let fov = f32::from_bits(bits);
-        tally.check(probe_sys::zoom_for_fov(fov), zoom_due(fov), || bits);
+        tally.check(hoodsorrel::raw::zoom_for_fov(fov), zoom_due(fov), || bits);
     });
     tally
 }
@@ -160,7 +167,7 @@ fn default_fov(options: &Options) -> Tally {
     let theirs = i64::from(pano::DEFAULT_FOV_DEG.to_bits());
     tally.check(theirs, due, || "pano::DEFAULT_FOV_DEG");
     for zoom in [1.0, 0.0, f32::NAN] {
-        tally.check(probe_sys::fov_for_zoom(zoom), due, || zoom.to_bits());
+        tally.check(hoodsorrel::raw::fov_for_zoom(zoom), due, || zoom.to_bits());
     }
     tally
 }

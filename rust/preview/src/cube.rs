@@ -77,22 +77,22 @@ fn draw_cells(svg: &mut Svg, view: &View) {
 }
 
 /// u and v of a vertex.
-fn place(vertex: &[u32]) -> Point {
-    Point::of_bits([vertex[3], vertex[4]])
+fn place(vertex: &[f32]) -> Point {
+    Point::of_floats([vertex[3], vertex[4]])
 }
 
 /// Halfway between a face's first and last vertex.
-fn middle(face: &[u32]) -> Point {
+fn middle(face: &[f32]) -> Point {
     let (first, last) = (place(face), place(&face[face.len() - VERTEX..]));
     point((first.x + last.x) / 2.0, (first.y + last.y) / 2.0)
 }
 
 /// The axis along which all vertices of a face lie on one side, with that side's sign.
-fn direction(face: &[u32]) -> Option<String> {
+fn direction(face: &[f32]) -> Option<String> {
     AXES.iter().enumerate().find_map(|(axis, name)| {
         let all = |side: fn(f32) -> bool| {
             let mut vertices = face.chunks_exact(VERTEX);
-            vertices.all(|vertex| side(f32::from_bits(vertex[axis])))
+            vertices.all(|vertex| side(vertex[axis]))
         };
         let sign = match (all(|x| x > 0.0), all(|x| x < 0.0)) {
             (true, _) => "+",
@@ -122,9 +122,9 @@ fn draw_label(svg: &mut Svg, at: Point, direction: &str, colour: &str) {
 mod tests {
     use super::*;
 
-    fn face(vertices: &[[f32; 3]]) -> Vec<u32> {
-        let words = vertices.iter().flat_map(|&[x, y, z]| [x, y, z, 0.0, 0.0]);
-        words.map(f32::to_bits).collect()
+    fn face(vertices: &[[f32; 3]]) -> Vec<f32> {
+        let floats = vertices.iter().flat_map(|&[x, y, z]| [x, y, z, 0.0, 0.0]);
+        floats.collect()
     }
 
     #[test]

@@ -59,8 +59,7 @@ fn main() -> ExitCode {
 
 fn run(options: &Options) -> Result<(), String> {
     let payload = read(&options.file).map_err(|error| failed(&options.file, error))?;
-    let scene = scene::scene(options.kind, &payload, options.drawn.given)
-        .map_err(|failure| failure.to_string())?;
+    let scene = scene::scene(options.kind, &payload, options.drawn.given)?;
     has_mesh(&scene.reading, options.drawn.mesh)?;
     let name = options.file.file_name().unwrap_or_default();
     let unread = scene.reading.unread(payload.len());

@@ -11,9 +11,9 @@ pub const fn point(x: f64, y: f64) -> Point {
 }
 
 impl Point {
-    /// u and v, of the bits of two floats.
-    pub fn of_bits(words: [u32; 2]) -> Point {
-        let [u, v] = words.map(|word| f64::from(f32::from_bits(word)));
+    /// u and v.
+    pub fn of_floats(floats: [f32; 2]) -> Point {
+        let [u, v] = floats.map(f64::from);
         point(u, v)
     }
 

@@ -45,8 +45,8 @@ pub fn draw(svg: &mut Svg, area: Area, crop: Crop, scene: &Scene) -> f64 {
     let patch = patch(&sphere, crop);
     draw_sphere(svg, &sphere);
     let uv = |vertex: usize| {
-        let words = &scene.floats[VERTEX * vertex..];
-        patch.at(Point::of_bits([words[0], words[1]]))
+        let floats = &scene.floats[VERTEX * vertex..];
+        patch.at(Point::of_floats([floats[0], floats[1]]))
     };
     let path = Path::of_triangles(&scene.numbers, uv);
     let triangles = scene.numbers.len() / 3;

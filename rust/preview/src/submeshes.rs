@@ -15,7 +15,7 @@ pub struct Submesh<'a> {
     number: usize,
     pub mesh: usize,
     mode: Mode,
-    floats: &'a [u32],
+    floats: &'a [f32],
 }
 
 /// The submeshes of a scene, in their order.
@@ -72,8 +72,8 @@ impl Submesh<'_> {
     }
 }
 
-fn coordinates(words: &[u32]) -> [f64; POINT] {
-    [0, 1, 2, 3, 4].map(|word| f64::from(f32::from_bits(words[word])))
+fn coordinates(floats: &[f32]) -> [f64; POINT] {
+    [0, 1, 2, 3, 4].map(|k| f64::from(floats[k]))
 }
 
 fn dots_style(colour: &str) -> String {

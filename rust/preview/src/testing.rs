@@ -19,7 +19,7 @@ pub fn scene(mode: u32, points: &[[f32; POINT]]) -> Scene {
             points: points.len() as u64,
         }),
         numbers: Vec::new(),
-        floats: points.iter().flatten().map(|x| x.to_bits()).collect(),
+        floats: points.iter().flatten().copied().collect(),
         records: vec![0, 0, mode, 0, points.len() as u32],
     }
 }

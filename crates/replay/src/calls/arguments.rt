@@ -18,6 +18,15 @@ pub fn word(x: u64) -> u32 {
     (x % 0x1_0000_0000) as u32
 }
 
+// Arguments of 16 bits and of 8: their low bits.
+pub fn half(x: u64) -> u16 {
+    (x % 0x1_0000) as u16
+}
+
+pub fn byte(x: u64) -> u8 {
+    (x % 0x100) as u8
+}
+
 // The float of a bit pattern. Every NaN's pattern stands for the one NaN.
 pub fn float(x: u64) -> f32 {
     let bits = word(x);

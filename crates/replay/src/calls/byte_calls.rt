@@ -1,4 +1,5 @@
-// Calls 01 to 07 and 0b: the byte cursor, and box headers.
+// Calls 01 to 07, 0b and 39: the byte cursor, box headers, and four bytes as a word.
+use super::arguments::byte;
 use capi::bytes::capi_byte_new;
 use capi::bytes::capi_header;
 use capi::bytes::capi_position;
@@ -7,6 +8,7 @@ use capi::bytes::capi_seek;
 use capi::bytes::capi_skip;
 use capi::bytes::capi_u8;
 use capi::bytes::capi_u32;
+use capi::bytes::capi_word_of;
 
 pub fn worded(call: usize, args: &[u64; 10], s: &[u8], words: &mut [u64]) -> i64 {
     let at = args[0] as usize;
@@ -21,4 +23,8 @@ pub fn worded(call: usize, args: &[u64; 10], s: &[u8], words: &mut [u64]) -> i64
         0x07 => capi_u32(s, at, words),
         _ => capi_header(s, at, words),
     }
+}
+
+pub fn word_of(args: &[u64; 10]) -> i64 {
+    capi_word_of(byte(args[0]), byte(args[1]), byte(args[2]), byte(args[3]))
 }

@@ -1,6 +1,7 @@
-// Calls 15 to 19: crops, and equi and cbmp payloads.
+// Calls 15 to 19 and 3d: crops, and equi and cbmp payloads.
 use super::arguments::float;
 use super::arguments::word;
+use capi::crops::capi_equi_crop;
 use capi::crops::capi_is_usable;
 use capi::crops::capi_parse_cbmp;
 use capi::crops::capi_parse_equi;
@@ -13,6 +14,16 @@ pub fn is_usable(args: &[u64; 10]) -> i64 {
         float(args[1]),
         float(args[2]),
         float(args[3]),
+    )
+}
+
+pub fn equi_crop(args: &[u64; 10], words: &mut [u64]) -> i64 {
+    capi_equi_crop(
+        word(args[0]),
+        word(args[1]),
+        word(args[2]),
+        word(args[3]),
+        words,
     )
 }
 

@@ -1,11 +1,11 @@
-// Calls 20 to 24: mesh lists and mesh bodies.
+// Calls 20 to 24 and 3a: mesh lists and mesh bodies.
 use super::Outcome;
 use super::WORDS;
 use super::arguments::answer_bits;
 use super::unpack::unpack_u16s;
 use super::unpack::unpack_u32s;
 use crate::sum;
-use bits::BitCursor;
+use capi::meshes::capi_measure_mesh;
 use capi::meshes::capi_measure_meshes;
 use capi::meshes::capi_mesh_records;
 use capi::meshes::capi_parse_mesh;
@@ -13,8 +13,11 @@ use capi::meshes::capi_parse_meshes;
 use capi::meshes::capi_write_mesh;
 ghost use Prim.Native.Nat.{_≤_};
 
-pub fn measure(payload: &[u8], words: &mut [u64]) -> i64 {
-    capi_measure_meshes(payload, words)
+pub fn measure(call: usize, data: &[u8], words: &mut [u64]) -> i64 {
+    match call {
+        0x20 => capi_measure_meshes(data, words),
+        _ => capi_measure_mesh(data, words),
+    }
 }
 
 pub fn records(payload: &[u8], out: &mut [u32], words: &mut [u64]) -> i64 {
@@ -54,7 +57,7 @@ fn write_tables(
     points: &mut [u16],
     out: &mut [u8],
 ) -> Outcome {
-    let a = unpack_u32s(data, BitCursor { bit: 0 }, pool);
+    let a = unpack_u32s(data, 0, pool);
     let b = unpack_u16s(data, a, coordinates);
     let c = unpack_u32s(data, b, submeshes);
     unpack_u16s(data, c, points);

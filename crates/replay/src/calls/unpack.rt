@@ -1,43 +1,52 @@
 // Items that are spelled big end first, one after the other.
 use bits::BitCursor;
 use bits::FieldRead;
+ghost use Prim.Native.Nat.{_≤_};
 
-// Fills out from a place of the data on, and answers the place after it. Where the data ends before, the rest of out
-// is as it was.
-pub fn unpack_u32s(data: &[u8], from: BitCursor, out: &mut [u32]) -> BitCursor {
-    let mut bit = from.bit;
-    let mut i: usize = 0;
-    while i < out.len() {
-        let here = BitCursor { bit };
-        match here.read(data, 32) {
-            FieldRead::Short => {
-                return here;
-            }
-            FieldRead::Value(v, next) => {
-                out[i] = v;
-                bit = next.bit;
-                i += 1;
-            }
-        }
-    }
-    BitCursor { bit }
+// An item and the bit place after it.
+struct Item {
+    value: u32,
+    after: usize,
 }
 
-pub fn unpack_u16s(data: &[u8], from: BitCursor, out: &mut [u16]) -> BitCursor {
-    let mut bit = from.bit;
+// The item of so many bits at a place; where the data ends before, 0 and the same place.
+fn read_item(data: &[u8], bit: usize, width: u32) -> Item
+    requires { ⌜ width ≤ 32 ⌝ }
+{
+    let here = BitCursor { bit };
+    match here.read(data, width) {
+        FieldRead::Value(value, next) => Item {
+            value,
+            after: next.bit,
+        },
+        FieldRead::Short => Item {
+            value: 0,
+            after: bit,
+        },
+    }
+}
+
+// Fills out from a bit place of the data on, and answers the place after it.
+pub fn unpack_u32s(data: &[u8], from: usize, out: &mut [u32]) -> usize {
+    let mut bit = from;
     let mut i: usize = 0;
     while i < out.len() {
-        let here = BitCursor { bit };
-        match here.read(data, 16) {
-            FieldRead::Short => {
-                return here;
-            }
-            FieldRead::Value(v, next) => {
-                out[i] = (v % 65536) as u16;
-                bit = next.bit;
-                i += 1;
-            }
-        }
+        let next = read_item(data, bit, 32);
+        out[i] = next.value;
+        bit = next.after;
+        i += 1;
     }
-    BitCursor { bit }
+    bit
+}
+
+pub fn unpack_u16s(data: &[u8], from: usize, out: &mut [u16]) -> usize {
+    let mut bit = from;
+    let mut i: usize = 0;
+    while i < out.len() {
+        let next = read_item(data, bit, 16);
+        out[i] = (next.value % 65_536) as u16;
+        bit = next.after;
+        i += 1;
+    }
+    bit
 }

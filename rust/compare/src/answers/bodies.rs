@@ -4,13 +4,13 @@ use spell::{Mesh, Spelled, Tables};
 
 use crate::answers::line::{bounded, lent, List, MOST_TABLES};
 use crate::answers::{one_of, thinned};
-use crate::mesh::{agrees, parsed, Due};
-use crate::mesh_damage::{damaged, every_bit, every_count, every_stray, stray};
-use crate::mesh_model::parse_mesh;
-use crate::mesh_payloads::{self, m1, sized};
-use crate::meshes::MOST_SUBMESHES;
-use crate::random::Random;
-use crate::tables::{lengths, refused_lengths};
+use crate::inputs::random::Random;
+use crate::lent::tables::{lengths, refused_lengths};
+use crate::mesh::body::{agrees, measured, parsed, Due};
+use crate::mesh::damage::{damaged, every_bit, every_count, every_stray, stray};
+use crate::mesh::lists::MOST_SUBMESHES;
+use crate::mesh::model::parse_mesh;
+use crate::mesh::payloads::{self, m1, sized};
 
 /// Random bodies that are taken as they are.
 const WHOLE: usize = 6;
@@ -55,9 +55,31 @@ pub fn add(list: &mut List, random: &mut Random) {
     }
 }
 
+/// The same bodies, measured.
+pub fn add_measured(list: &mut List, random: &mut Random) {
+    let mut measure = |body: &[u8]| {
+        list.words("measure_mesh", &[], body, &measured(&due(body)));
+    };
+    measure(&spell::body(&m1()).bytes);
+    for (pool, vertices, points) in LARGE {
+        measure(&spell::body(&sized(random, pool, vertices, points)).bytes);
+    }
+    for body in faults_of_m1().iter().step_by(2) {
+        measure(body);
+    }
+    for _ in 0..RANDOM {
+        let mut mesh = small(random);
+        let spelled = spell::body(&mesh);
+        measure(&spelled.bytes);
+        measure(&damaged(random, &spelled));
+        stray(random, &mut mesh);
+        measure(&spell::body(&mesh).bytes);
+    }
+}
+
 fn small(random: &mut Random) -> Mesh {
     loop {
-        let mesh = mesh_payloads::mesh(random);
+        let mesh = payloads::mesh(random);
         if spell::body(&mesh).bytes.len() <= LONG {
             return mesh;
         }

@@ -1,10 +1,10 @@
 //! The calls of the byte cursor, and headers of boxes.
 
 use crate::answers::line::List;
-use crate::buffers::place;
-use crate::cursors;
-use crate::headers;
-use crate::random::Random;
+use crate::bits::cursors;
+use crate::bits::headers;
+use crate::inputs::buffers::place;
+use crate::inputs::random::Random;
 
 /// Lengths of buffers.
 const LENGTHS: [usize; 5] = [0, 1, 4, 5, 24];

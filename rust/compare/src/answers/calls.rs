@@ -23,7 +23,7 @@ const fn call(
 }
 
 /// The first one has number 1.
-pub const CALLS: [Call; 51] = [
+pub const CALLS: [Call; 61] = [
     call("byte_new", &[], "-", "words"),
     call("position", &["at"], "-", "words"),
     call("remaining", &["at"], "bytes", "words"),
@@ -137,4 +137,34 @@ pub const CALLS: [Call; 51] = [
     call("projection_bounds", &["raw"], "-", "words"),
     call("fov_for_zoom", &["zoom"], "-", "-"),
     call("zoom_for_fov", &["fov"], "-", "-"),
+    call("read_two", &["bit", "width"], "bytes", "words"),
+    call("check_run", &["bit", "limit", "count"], "bytes", "-"),
+    call("check_fives", &["bit", "limit", "count"], "bytes", "-"),
+    call(
+        "fill_run",
+        &["bit", "width", "from", "numbers"],
+        "bytes",
+        "numbers",
+    ),
+    call(
+        "fill_fives",
+        &["bit", "width", "numbers"],
+        "bytes",
+        "numbers",
+    ),
+    call("word_of", &["a", "b", "c", "d"], "-", "-"),
+    call("measure_mesh", &[], "body", "words"),
+    call(
+        "sphere_lengths",
+        &["rings", "sectors", "top", "bottom", "left", "right"],
+        "-",
+        "words",
+    ),
+    call(
+        "cubemap_lengths",
+        &["cells", "radius", "padding"],
+        "-",
+        "words",
+    ),
+    call("equi_crop", &["t", "b", "l", "r"], "-", "words"),
 ];

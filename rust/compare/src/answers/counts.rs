@@ -1,13 +1,13 @@
 //! The counts of grids and of cubes.
 
 use crate::answers::line::List;
-use crate::counts::{
+use crate::bits::run_on::boundaries;
+use crate::grids::counts::{
     cube_indices_due, cube_vertices_due, indices_due, sectors_around, vertices_due, LAST_INDICES,
     LAST_VERTICES,
 };
-use crate::random::Random;
-use crate::run_on::boundaries;
-use crate::scene_numbers::{LARGE_GRIDS, THIN_GRIDS, TOO_LARGE_GRIDS};
+use crate::inputs::random::Random;
+use crate::scene::numbers::{LARGE_GRIDS, THIN_GRIDS, TOO_LARGE_GRIDS};
 
 const RANDOM: usize = 5;
 /// From so many rings on there are sectors whose indices are too many.

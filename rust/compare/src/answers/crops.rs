@@ -1,17 +1,18 @@
 //! The calls of kinds 0 and 1: crops, and their payloads and those of cubes.
 
-use probe_sys::Crop;
+use hoodsorrel::raw::Crop;
 
 use crate::answers::line::{bits, lent, List};
 use crate::answers::thinned;
-use crate::crops::{self, turns};
-use crate::equi::{self, random_fields, Fields};
-use crate::payloads::{cuts, damaged};
-use crate::random::Random;
-use crate::scene_crops::{UNUSABLE, USABLE};
-use crate::scene_numbers::PADDINGS;
-use crate::scene_payloads::dressed;
-use crate::{cbmp, sphere};
+use crate::crops::cbmp;
+use crate::crops::equi::{self, random_fields, Fields};
+use crate::crops::usable::{self, turns};
+use crate::grids::sphere;
+use crate::inputs::payloads::{cuts, damaged};
+use crate::inputs::random::Random;
+use crate::scene::crops::{UNUSABLE, USABLE};
+use crate::scene::numbers::PADDINGS;
+use crate::scene::payloads::dressed;
 
 const RANDOM: usize = 10;
 /// Every so manieth of the cuts in each version is taken.
@@ -36,6 +37,22 @@ pub fn add(list: &mut List, random: &mut Random) {
     paddings(list, random);
     some_cuts(random, &cbmp::payload(0, 4096), |p| read_cube(list, p));
     some_cuts(random, &cbmp::payload(256, 4097), |p| read_cube(list, p));
+}
+
+/// The crop that fields make, usable or not.
+pub fn add_crop(list: &mut List, random: &mut Random) {
+    for fields in USABLE.into_iter().chain(UNUSABLE) {
+        crop_of(list, fields);
+    }
+    for _ in 0..RANDOM {
+        crop_of(list, random_fields(random));
+        crop_of(list, [0; 4].map(|_| random.word()));
+    }
+}
+
+fn crop_of(list: &mut List, fields: Fields) {
+    let args = fields.map(u64::from);
+    list.words("equi_crop", &args, &[], &equi::crop_due(fields));
 }
 
 /// Every length up to that of the payload, and some lengths of each version.
@@ -70,7 +87,7 @@ fn sides(list: &mut List, random: &mut Random) {
 }
 
 fn usable(list: &mut List, crop: Crop) {
-    list.number("is_usable", &crop.map(bits), crops::due(crop));
+    list.number("is_usable", &crop.map(bits), usable::due(crop));
 }
 
 fn read_crop(list: &mut List, payload: &[u8]) {

@@ -1,14 +1,14 @@
 //! The calls on cubes.
 
 use crate::answers::line::{bits, lent, made, List, MOST_FLOATS, MOST_NUMBERS};
-use crate::cube::{
+use crate::bits::run_on::boundaries;
+use crate::grids::cube::{
     floats_needed, indices_due, indices_needed, mesh_due, MOST_CELLS, RADII, SHARES, WRAPS,
 };
-use crate::fill::lengths;
-use crate::random::Random;
-use crate::run_on::boundaries;
-use crate::scene_numbers::{faces, PADDINGS};
-use crate::shares;
+use crate::grids::shares;
+use crate::inputs::random::Random;
+use crate::lent::fill::lengths;
+use crate::scene::numbers::{faces, PADDINGS};
 
 /// The most cells that are usable, one more, and other large numbers of them.
 const MANY: [u32; 10] = [

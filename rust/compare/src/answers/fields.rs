@@ -1,9 +1,10 @@
 //! The calls of the bit cursor.
 
 use crate::answers::line::List;
-use crate::buffers::place;
-use crate::fields::{self, NO_PRODUCT};
-use crate::random::Random;
+use crate::bits::fields::{self, NO_PRODUCT};
+use crate::bits::read_two;
+use crate::inputs::buffers::place;
+use crate::inputs::random::Random;
 
 const WIDTHS: [u32; 13] = [0, 1, 2, 7, 8, 9, 17, 24, 25, 31, 32, 33, u32::MAX];
 /// Fields of each width.
@@ -30,6 +31,28 @@ pub fn add(list: &mut List, random: &mut Random) {
         }
         last(list, random, width);
     }
+}
+
+/// Two fields of one width.
+pub fn add_two(list: &mut List, random: &mut Random) {
+    for width in WIDTHS.into_iter().chain([15, 16]) {
+        for _ in 0..FIELDS {
+            let n = random.below(10);
+            let data = random.bytes(n);
+            two(list, &data, place(random, 8 * n), width);
+        }
+        let data = random.bytes(9);
+        let end = 8 * data.len();
+        let first = end.saturating_sub(2 * width.min(32) as usize);
+        for bit in [first, first + 1, end, usize::MAX] {
+            two(list, &data, bit, width);
+        }
+    }
+}
+
+fn two(list: &mut List, data: &[u8], bit: usize, width: u32) {
+    let args = [bit as u64, width.into()];
+    list.words("read_two", &args, data, &read_two::due(data, bit, width));
 }
 
 /// A field that ends with its buffer, the next one, and one at the largest place.

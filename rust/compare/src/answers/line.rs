@@ -3,8 +3,8 @@
 use std::collections::BTreeSet;
 use std::fmt::Write;
 
-use crate::answer::{Answer, MOST_STORED};
 use crate::answers::calls::CALLS;
+use crate::lent::answer::{Answer, MOST_STORED};
 
 /// So many bytes of data, and so many items of each buffer, a line has at most.
 const MOST_DATA: usize = 2048;
@@ -121,6 +121,18 @@ impl List {
     pub fn number(&mut self, name: &str, args: &[u32], due: i64) {
         let args: Vec<u64> = args.iter().copied().map(u64::from).collect();
         self.push(name, &args, &[], due, Sum::of_nothing());
+    }
+
+    /// A call on data that is lent nothing.
+    pub fn judged(&mut self, name: &str, args: &[u64], data: &[u8], due: i64) {
+        self.push(name, args, data, due, Sum::of_nothing());
+    }
+
+    /// A call on data that is lent one buffer and no words.
+    pub fn filled(&mut self, name: &str, args: &[u64], data: &[u8], due: i64, buffer: &dyn Lent) {
+        let mut sum = Sum::of_nothing();
+        buffer.add_to(&mut sum);
+        self.push(name, args, data, due, sum);
     }
 
     /// A call that is lent words.

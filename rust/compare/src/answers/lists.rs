@@ -4,12 +4,12 @@ use spell::Part;
 
 use crate::answers::line::{bounded, lent, List, MOST_DRAWN};
 use crate::answers::{one_of, thinned};
-use crate::mesh_damage::{damaged, every_bit, every_count, every_size, every_stray_of, stray_of};
-use crate::mesh_payloads::{self, lone, m1, sized};
-use crate::meshes::{due, measured, parsed, recorded, Due};
-use crate::random::Random;
-use crate::scene_list_faults::{faulty_list, LIST_FAULTS};
-use crate::tables::{lengths, refused_lengths};
+use crate::inputs::random::Random;
+use crate::lent::tables::{lengths, refused_lengths};
+use crate::mesh::damage::{damaged, every_bit, every_count, every_size, every_stray_of, stray_of};
+use crate::mesh::lists::{due, measured, parsed, recorded, Due};
+use crate::mesh::payloads::{self, lone, m1, sized};
+use crate::scene::list_faults::{faulty_list, LIST_FAULTS};
 
 /// Random lists, and damaged copies of each.
 const RANDOM: usize = 12;
@@ -74,7 +74,7 @@ pub fn large(random: &mut Random) -> Vec<Vec<u8>> {
 /// Document 01's m1: cut, with other counts and sizes, with bits turned over, and with numbers that
 /// leave their range.
 pub fn faults_of_m1() -> Vec<Vec<u8>> {
-    let list = mesh_payloads::List {
+    let list = payloads::List {
         parts: vec![Part::Mesh(m1())],
         rest: Vec::new(),
     };
@@ -107,9 +107,9 @@ pub fn damages(random: &mut Random) -> Vec<Vec<u8>> {
     payloads
 }
 
-fn small(random: &mut Random) -> mesh_payloads::List {
+fn small(random: &mut Random) -> payloads::List {
     loop {
-        let list = mesh_payloads::List::random(random);
+        let list = payloads::List::random(random);
         if list.spelled().bytes.len() <= LONG {
             return list;
         }

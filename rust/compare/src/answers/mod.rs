@@ -1,7 +1,7 @@
 //! The list of stored answers: calls and what is due to them, one to a line.
 //!
 //! An answer is that of the Rust, with the number of its refusal as the subjects say it, or where
-//! the Rust is not asked their own. Nothing here calls libprobe.a.
+//! the Rust is not asked their own. Nothing here calls the library.
 
 mod bodies;
 mod bytes;
@@ -10,10 +10,12 @@ mod counts;
 mod crops;
 mod cubes;
 mod fields;
+mod lengths;
 mod line;
 mod lists;
 mod numbers;
 mod put;
+mod runs;
 mod scenes;
 mod spheres;
 mod view;
@@ -21,8 +23,8 @@ mod writer;
 
 use std::io::{self, Write};
 
+use crate::inputs::random::Random;
 use crate::options::Options;
-use crate::random::Random;
 
 use calls::CALLS;
 use line::List;
@@ -30,7 +32,7 @@ use line::List;
 type Group = (&'static str, fn(&mut List, &mut Random));
 
 /// Each takes random numbers of its own name.
-const GROUPS: [Group; 13] = [
+const GROUPS: [Group; 19] = [
     ("answers bytes", bytes::add),
     ("answers fields", fields::add),
     ("answers numbers", numbers::add),
@@ -44,6 +46,12 @@ const GROUPS: [Group; 13] = [
     ("answers scenes", scenes::add),
     ("answers counts", counts::add),
     ("answers view", view::add),
+    ("answers two fields", fields::add_two),
+    ("answers word", numbers::add_word),
+    ("answers runs", runs::add),
+    ("answers crop", crops::add_crop),
+    ("answers lengths", lengths::add),
+    ("answers measured", bodies::add_measured),
 ];
 
 const SOURCE: &str = "\
@@ -59,7 +67,8 @@ const FORM: &str = "\
 # words, or the number itself where no words are lent, or -k for refusal k, of which 12 names the
 # needed lengths in its words, or 8000000000000000 for a width above 32.
 # SUM is FNV-1a in 32 bits over the bytes of what was lent as it is after the call, each item with
-# its big end first: eight words, then the buffers. Before the call all their bytes are a5.
+# its big end first: eight words where words are lent, then the buffers. Before the call all their
+# bytes are a5.
 # A NaN that arithmetic makes is 7fc00000.
 # Refusal 2 is not here: it takes a payload of more than 67108864 bytes.
 #

@@ -1,10 +1,16 @@
 //! The calls on numbers alone.
 
 use crate::answers::line::{bits, List};
-use crate::crops::turns;
-use crate::random::Random;
-use crate::run_on::{self, boundaries, next};
-use crate::{bit_width, float_bits, nearest, scale, stepped, zigzag};
+use crate::bits::bit_width;
+use crate::bits::float_bits;
+use crate::bits::nearest;
+use crate::bits::run_on::{self, boundaries, next};
+use crate::bits::scale;
+use crate::bits::stepped;
+use crate::bits::word_of;
+use crate::bits::zigzag;
+use crate::crops::usable::turns;
+use crate::inputs::random::Random;
 
 const RANDOM: usize = 12;
 /// Around these the nearest float changes, and a share becomes 1.
@@ -42,6 +48,20 @@ pub fn add(list: &mut List, random: &mut Random) {
     for x in turns().into_iter().chain(any) {
         list.number("float_bits", &[bits(x)], float_bits::due(x));
     }
+}
+
+/// Four bytes as a number.
+pub fn add_word(list: &mut List, random: &mut Random) {
+    for word in boundaries().into_iter().step_by(2) {
+        word_of(list, word.to_be_bytes());
+    }
+    for _ in 0..RANDOM {
+        word_of(list, random.word().to_be_bytes());
+    }
+}
+
+fn word_of(list: &mut List, bytes: [u8; 4]) {
+    list.number("word_of", &bytes.map(u32::from), word_of::due(bytes));
 }
 
 /// Where a field takes a running number, with limits around it and any other.

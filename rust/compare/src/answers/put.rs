@@ -1,9 +1,10 @@
 //! The calls that put a word or a field into a buffer.
 
 use crate::answers::line::{lent, List};
-use crate::buffers::place;
-use crate::random::Random;
-use crate::{put_field, put_word};
+use crate::bits::put_field;
+use crate::bits::put_word;
+use crate::inputs::buffers::place;
+use crate::inputs::random::Random;
 
 /// Lengths to lend.
 const LENGTHS: [usize; 4] = [0, 4, 5, 16];

@@ -1,22 +1,22 @@
 //! Whole scene calls.
 
-use probe_sys::Given;
+use hoodsorrel::Given;
 
 use crate::answers::line::{bits, bounded, lent, made, List, MOST_DRAWN};
 use crate::answers::{lists, one_of};
-use crate::cbmp;
-use crate::equi;
-use crate::random::Random;
-use crate::scene_calls::drawn;
-use crate::scene_crops::{UNUSABLE, USABLE};
-use crate::scene_faults::{self, choices, spoil, Draft, Fault, CROP_FAULTS, CUBE_FAULTS};
-use crate::scene_model::{due, Call, Due};
-use crate::scene_numbers::{
+use crate::crops::cbmp;
+use crate::crops::equi;
+use crate::inputs::random::Random;
+use crate::lent::tables::{lengths, refused_lengths};
+use crate::scene::calls::drawn;
+use crate::scene::crops::{UNUSABLE, USABLE};
+use crate::scene::faults::{self, choices, spoil, Draft, Fault, CROP_FAULTS, CUBE_FAULTS};
+use crate::scene::model::{due, Call, Due};
+use crate::scene::numbers::{
     any_given, faces, small_given, LARGE_GRIDS, MANY_CELLS, OTHER_KINDS, PADDINGS, RADII,
     THIN_GRIDS, TOO_LARGE_GRIDS,
 };
-use crate::scene_payloads::{dressed, payload_of};
-use crate::tables::{lengths, refused_lengths};
+use crate::scene::payloads::{dressed, payload_of};
 
 /// Calls with several faults of kind 0, and as many of kind 1.
 const FAULTS: usize = 50;
@@ -33,9 +33,9 @@ pub fn add(list: &mut List, random: &mut Random) {
     mesh_lists(list, random);
     any_kinds(list, random);
     for _ in 0..FAULTS {
-        let draft = scene_faults::whole_crop(random);
+        let draft = faults::whole_crop(random);
         faulty(list, random, draft, &CROP_FAULTS);
-        let draft = scene_faults::whole_cube(random);
+        let draft = faults::whole_cube(random);
         faulty(list, random, draft, &CUBE_FAULTS);
     }
 }
@@ -120,7 +120,7 @@ fn faulty(list: &mut List, random: &mut Random, mut draft: Draft, faults: &[Faul
     }
     let call = call(draft.kind, &draft.bytes, draft.given);
     let due = due(call);
-    let n = scene_faults::lent(random, &due, draft.short_buffers);
+    let n = faults::lent(random, &due, draft.short_buffers);
     on(list, call, &due, n);
 }
 

@@ -1,12 +1,14 @@
 //! The calls on grids of a sphere.
 
-use probe_sys::Crop;
+use hoodsorrel::raw::Crop;
 
 use crate::answers::line::{bits, lent, List, MOST_FLOATS, MOST_NUMBERS};
-use crate::fill::lengths;
-use crate::random::Random;
-use crate::scene_numbers::{LARGE_GRIDS, THIN_GRIDS, TOO_LARGE_GRIDS};
-use crate::sphere::{bounded_due, indices_due, needed, uvs_due, uvs_of, FULL, UNUSABLE, USABLE};
+use crate::grids::sphere::{
+    bounded_due, indices_due, needed, uvs_due, uvs_of, FULL, UNUSABLE, USABLE,
+};
+use crate::inputs::random::Random;
+use crate::lent::fill::lengths;
+use crate::scene::numbers::{LARGE_GRIDS, THIN_GRIDS, TOO_LARGE_GRIDS};
 
 /// Small grids with any crops.
 const RANDOM: usize = 16;

@@ -1,9 +1,9 @@
 //! The calls of the view: layouts, pairs, projections, zooms.
 
 use crate::answers::line::{bits, List};
-use crate::crops::turns;
-use crate::random::Random;
-use crate::run_on::boundaries;
+use crate::bits::run_on::boundaries;
+use crate::crops::usable::turns;
+use crate::inputs::random::Random;
 use crate::view::{
     bounds_due, fov_due, layout_due, mix_due, pair_due, panoramic_due, projection_due, window_due,
     windowed_due, zoom_due, EYES, ZOOM_ENDS,

@@ -3,13 +3,13 @@
 use spell::Tables;
 
 use crate::answers::line::{lent, List, MOST_OUT, MOST_TABLES};
-use crate::mesh_payloads::{self, m1, sized};
-use crate::mesh_spoils::{every_place, SPOILS};
-use crate::mesh_writer::put;
-use crate::mesh_writer_model::write_mesh;
-use crate::meshes::fits;
-use crate::random::Random;
-use crate::tables::{lengths, refused_lengths};
+use crate::inputs::random::Random;
+use crate::lent::tables::{lengths, refused_lengths};
+use crate::mesh::lists::fits;
+use crate::mesh::payloads::{self, m1, sized};
+use crate::mesh::spoils::{every_place, SPOILS};
+use crate::mesh::writer::put;
+use crate::mesh::writer_model::write_mesh;
 
 /// Random meshes.
 const RANDOM: usize = 12;
@@ -45,7 +45,7 @@ pub fn add(list: &mut List, random: &mut Random) {
 
 fn small(random: &mut Random) -> Tables {
     loop {
-        let tables = Tables::from(&mesh_payloads::mesh(random));
+        let tables = Tables::from(&payloads::mesh(random));
         if bytes(&tables).len() <= LONG {
             return tables;
         }

@@ -12,11 +12,11 @@ returns c = search needs
 array-borrow-prefix-out : tie.Need-array-borrow-prefix-out
 array-borrow-prefix-out c = search needs
 
-slice-aggregate-answer-numbers : tie.Need-slice-aggregate-answer-numbers
-slice-aggregate-answer-numbers c = sym (length-take-le _ _ (omega arith))
+slice-aggregate-call-numbers : tie.Need-slice-aggregate-call-numbers
+slice-aggregate-call-numbers c = sym (length-take-le _ _ (omega arith))
 
-answer-numbers-requires : tie.Need-answer-numbers-requires
-answer-numbers-requires c κs = search needs
+call-numbers-requires : tie.Need-call-numbers-requires
+call-numbers-requires c κs = search needs
 
 returns-2 : tie.Need-returns-2
 returns-2 c = search needs
@@ -24,4 +24,4 @@ returns-2 c = search needs
 pub lend-numbers-spec : {M : Type 1} → statement M
 lend-numbers-spec =
     tie.close
-    (tie.spec returns array-borrow-prefix-out slice-aggregate-answer-numbers answer-numbers-requires returns-2)
+    (tie.spec returns array-borrow-prefix-out slice-aggregate-call-numbers call-numbers-requires returns-2)

@@ -1,14 +1,15 @@
 -- `print_calls` is safe and ends. Assumes nothing.
 use native.Mathlib.Omega.{arith}
 use Prim.Native.Nat.{_≤_, _-_}
+use Rattle.replay.specs.Line.{callNumbers}
 use Rattle.replay.proofs.tally.print_calls.Statement.{statement}
 use Rattle.replay.proofs.tally.print_calls.Tie as tie
 
 abbrev Inv-loop : tie.InvT-loop
-Inv-loop same different call₀ call = call ≤ 52
+Inv-loop same different call₀ call = call ≤ callNumbers
 
 abbrev μ-loop : tie.MeasureT-loop
-μ-loop same different call₀ call = 52 - call
+μ-loop same different call₀ call = callNumbers - call
 
 loop-holds : tie.Need-loop-holds Inv-loop μ-loop
 loop-holds c = omega arith

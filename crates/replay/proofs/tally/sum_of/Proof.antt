@@ -1,14 +1,15 @@
 -- `sum_of` is safe and ends. Assumes nothing.
 use native.Mathlib.Omega.{arith}
 use Prim.Native.Nat.{_≤_, _-_}
+use Rattle.replay.specs.Line.{callNumbers}
 use Rattle.replay.proofs.tally.sum_of.Statement.{statement}
 use Rattle.replay.proofs.tally.sum_of.Tie as tie
 
 abbrev Inv-loop : tie.InvT-loop
-Inv-loop counts total₀ i₀ total i = i ≤ 52
+Inv-loop counts total₀ i₀ total i = i ≤ callNumbers
 
 abbrev μ-loop : tie.MeasureT-loop
-μ-loop counts total₀ i₀ total i = 52 - i
+μ-loop counts total₀ i₀ total i = callNumbers - i
 
 loop-holds : tie.Need-loop-holds Inv-loop μ-loop
 loop-holds c = omega arith

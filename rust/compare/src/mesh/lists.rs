@@ -1,0 +1,274 @@
+//! Mesh lists: drawn, measured, and their records alone.
+
+use reference::mesh;
+use spell::{Part, Spelled, MESH};
+
+use crate::inputs::payloads::{shown, LONGEST};
+use crate::inputs::random::Random;
+use crate::lent::answer::Answer;
+use crate::lent::tables::{self, lengths, refused_lengths, Table};
+use crate::mesh::damage::{damaged, every_byte, every_size, every_stray_of, stray_of};
+use crate::mesh::drawing::Drawing;
+use crate::mesh::model;
+use crate::mesh::payloads::{large_counts, lone, m1, mesh, sized, List};
+use crate::options::Options;
+use crate::tally::Tally;
+
+const NAME: &str = "meshes";
+/// The Rust reserves memory for its submeshes first, and is not asked to read more than these.
+pub const MOST_SUBMESHES: u32 = 65_536;
+/// So many lists are damaged in every place.
+const LISTS: usize = 60;
+/// So many lists are taken with some damaged copies.
+const RANDOM: usize = 32_000;
+/// With `--long` there are so many times as many.
+pub const LONGER: usize = 5;
+/// Damaged copies of a random list.
+const COPIES: usize = 3;
+const MANY_MESHES: usize = 1000;
+
+pub type Due = Result<Drawing, i64>;
+
+struct Lists {
+    random: Random,
+    model: Tally,
+    parsed: Tally,
+    measured: Tally,
+    records: Tally,
+    beyond: Tally,
+}
+
+pub fn run(options: &Options) -> Vec<Tally> {
+    let mut lists = Lists::new(options);
+    let times = if options.long { LONGER } else { 1 };
+    for _ in 0..LISTS * times {
+        lists.every_damage();
+    }
+    for _ in 0..RANDOM * times {
+        lists.random_damage();
+    }
+    lists.large();
+    lists.longest();
+    let Lists {
+        model,
+        parsed,
+        measured,
+        records,
+        beyond,
+        ..
+    } = lists;
+    vec![model, parsed, measured, records, beyond]
+}
+
+impl Lists {
+    fn new(options: &Options) -> Lists {
+        let tally = |name, what| Tally::new(options, name, what);
+        Lists {
+            random: Random::new(options.seed, NAME),
+            model: tally(
+                "meshes payloads",
+                "a model that numbers the refusals against mesh::parse_meshes",
+            ),
+            parsed: tally(
+                NAME,
+                "against mesh::parse_meshes; refusals and coordinate numbers against the model",
+            ),
+            measured: tally("meshes measured", "the same counts, lengths and refusals"),
+            records: tally("meshes records", "the same counts, records and refusals"),
+            beyond: tally(
+                "meshes beyond the Rust",
+                "calls on more than 65536 submeshes or 67108864 bytes against the model",
+            ),
+        }
+    }
+
+    fn every_damage(&mut self) {
+        let list = List::random(&mut self.random);
+        let spelled = list.spelled();
+        self.check(&spelled.bytes);
+        every_byte(&spelled, |payload| self.check(payload));
+        every_size(&list, |payload| self.check(payload));
+        every_stray_of(&list, |payload| self.check(payload));
+    }
+
+    fn random_damage(&mut self) {
+        let list = List::random(&mut self.random);
+        let spelled = list.spelled();
+        self.check(&spelled.bytes);
+        for _ in 0..COPIES {
+            let payload = damaged(&mut self.random, &spelled);
+            self.check(&payload);
+        }
+        let payload = stray_of(&mut self.random, &list);
+        self.check(&payload);
+    }
+
+    fn large(&mut self) {
+        for (pool, vertices, points) in large_counts() {
+            let payload = lone(&sized(&mut self.random, pool, vertices, &points));
+            self.check(&payload);
+        }
+        let all = sized(&mut self.random, 10_000, 32_000, &[128_000, 1, 128_000]);
+        let spelled = Spelled {
+            bytes: lone(&all),
+            ..Spelled::default()
+        };
+        self.check(&spelled.bytes);
+        for _ in 0..COPIES {
+            let payload = damaged(&mut self.random, &spelled);
+            self.check(&payload);
+        }
+        let parts = (0..MANY_MESHES).map(|_| Part::Mesh(mesh(&mut self.random)));
+        let parts = parts.collect();
+        let rest = Vec::new();
+        self.check(&List { parts, rest }.spelled().bytes);
+    }
+
+    /// As long as a payload may be, and one byte longer: with a long box, and with a long mesh.
+    fn longest(&mut self) {
+        let mesh = m1();
+        let mut first = lone(&mesh);
+        self.check(&first);
+        let rest = LONGEST - first.len();
+        first.extend((rest as u32).to_be_bytes());
+        first.extend(b"free");
+        let mut second = (LONGEST as u32).to_be_bytes().to_vec();
+        second.extend(MESH);
+        second.extend(spell::body(&mesh).bytes);
+        for mut payload in [first, second] {
+            payload.resize(LONGEST, 0);
+            self.check(&payload);
+            payload.push(0);
+            self.check(&payload);
+        }
+    }
+
+    fn check(&mut self, payload: &[u8]) {
+        let model = model::parse_meshes(payload);
+        let due = model.reading.map(|meshes| Drawing::of_model(&meshes));
+        let random = &mut self.random;
+        if model.most_submeshes > MOST_SUBMESHES || payload.len() > LONGEST {
+            parse(&mut self.beyond, random, payload, &due);
+            measure(&mut self.beyond, payload, &due);
+            records(&mut self.beyond, random, payload, &due);
+        } else {
+            let rust = rust(payload, &due);
+            self.model.check(due == rust, true, || shown(payload));
+            parse(&mut self.parsed, random, payload, &rust);
+            measure(&mut self.measured, payload, &rust);
+            records(&mut self.records, random, payload, &rust);
+        }
+    }
+}
+
+/// What a reader of lists has to draw: the Rust's drawing, or the model's where the Rust is not
+/// asked.
+pub fn due(payload: &[u8]) -> Due {
+    let model = model::parse_meshes(payload);
+    let drawing = model.reading.map(|meshes| Drawing::of_model(&meshes));
+    if model.most_submeshes > MOST_SUBMESHES {
+        return drawing;
+    }
+    rust(payload, &drawing)
+}
+
+/// The Rust's answer, with the number of the refusal and the coordinate numbers of the model.
+pub fn rust(payload: &[u8], model: &Due) -> Due {
+    let (numbers, refusal) = match model {
+        Ok(drawing) => (drawing.numbers.clone(), 0),
+        Err(refusal) => (Vec::new(), *refusal),
+    };
+    let meshes = mesh::parse_meshes(payload).ok_or(refusal)?;
+    Ok(Drawing::of_rust(&meshes, numbers))
+}
+
+fn parse(tally: &mut Tally, random: &mut Random, payload: &[u8], due: &Due) {
+    let lent = match due {
+        Ok(drawing) => lengths(random, drawing.lengths()),
+        Err(_) => refused_lengths(random),
+    };
+    for lent in lent {
+        parse_on(tally, payload, due, lent);
+    }
+}
+
+/// The answer on buffers of these lengths, and what is drawn into them.
+pub fn parsed(due: &Due, lent: [usize; 3]) -> (Answer, Option<&Drawing>) {
+    match due {
+        Err(refusal) => (Answer::refused(*refusal), None),
+        Ok(drawing) if !fits(drawing.lengths(), lent) => {
+            (Answer::needs_each(&drawing.lengths()), None)
+        }
+        Ok(drawing) => (Answer::words(&drawing.words()), Some(drawing)),
+    }
+}
+
+fn parse_on(tally: &mut Tally, payload: &[u8], due: &Due, lent: [usize; 3]) {
+    let unchanged = Drawing::default();
+    let (answer, drawn) = parsed(due, lent);
+    let after = drawn.unwrap_or(&unchanged);
+    let mut numbers = Table::new("number", &after.numbers, lent[0]);
+    let mut floats = Table::new("float", &after.floats, lent[1]);
+    let mut records = Table::new("record word", &after.records, lent[2]);
+    let replies = tally.ask_amply(&answer, |words| {
+        hoodsorrel::raw::parse_meshes(
+            payload,
+            numbers.lent(),
+            floats.lent(),
+            records.lent(),
+            words,
+        )
+    });
+    let buffers: [&dyn tables::Buffer; 3] = [&numbers, &floats, &records];
+    tables::check(tally, replies, &buffers, || (lent, shown(payload)));
+}
+
+pub fn fits<const N: usize>(needed: [usize; N], lent: [usize; N]) -> bool {
+    needed
+        .iter()
+        .zip(lent)
+        .all(|(needed, lent)| *needed <= lent)
+}
+
+pub fn measured(due: &Due) -> Answer {
+    match due {
+        Ok(drawing) => Answer::words(&drawing.words()),
+        Err(refusal) => Answer::refused(*refusal),
+    }
+}
+
+fn measure(tally: &mut Tally, payload: &[u8], due: &Due) {
+    let answer = measured(due);
+    let replies = tally.ask_amply(&answer, |words| {
+        hoodsorrel::raw::measure_meshes(payload, words)
+    });
+    tables::check(tally, replies, &[], || shown(payload));
+}
+
+fn records(tally: &mut Tally, random: &mut Random, payload: &[u8], due: &Due) {
+    let lent = match due {
+        Ok(drawing) => lengths(random, [drawing.records.len()]),
+        Err(_) => refused_lengths(random),
+    };
+    for [lent] in lent {
+        records_on(tally, payload, due, lent);
+    }
+}
+
+/// The answer on a buffer of this length, and the records that are put into it.
+pub fn recorded(due: &Due, lent: usize) -> (Answer, &[u32]) {
+    match due {
+        Err(refusal) => (Answer::refused(*refusal), &[]),
+        Ok(drawing) if drawing.records.len() > lent => (Answer::needs(drawing.records.len()), &[]),
+        Ok(drawing) => (Answer::words(&drawing.counts()), &drawing.records),
+    }
+}
+
+fn records_on(tally: &mut Tally, payload: &[u8], due: &Due, lent: usize) {
+    let (answer, after) = recorded(due, lent);
+    let mut records = Table::new("record word", after, lent);
+    let replies = tally.ask_amply(&answer, |words| {
+        hoodsorrel::raw::mesh_records(payload, records.lent(), words)
+    });
+    tables::check(tally, replies, &[&records], || (lent, shown(payload)));
+}

@@ -1,0 +1,19 @@
+//! Mesh bodies and mesh lists, read and written.
+
+pub mod body;
+pub mod damage;
+pub mod drawing;
+pub mod lists;
+pub mod model;
+pub mod payloads;
+pub mod spoils;
+pub mod writer;
+pub mod writer_model;
+
+use crate::Subject;
+
+pub const SUBJECTS: &[Subject] = &[
+    ("mesh", body::run),
+    ("meshes", lists::run),
+    ("mesh_writer", writer::run),
+];

@@ -1,0 +1,198 @@
+//! Descriptions of meshes and of mesh lists: small random ones, and some with large counts.
+
+use spell::{Mesh, Part, Spelled, Submesh, FIELDS, MESH};
+
+use crate::inputs::random::Random;
+
+/// NaN, infinite, subnormal and zero pool words.
+const WORDS: [u32; 12] = [
+    0x7FC0_0000,
+    0xFFC0_0000,
+    0x7F80_0001,
+    0xFFBF_FFFF,
+    0xFFFF_FFFF,
+    0x7F80_0000,
+    0xFF80_0000,
+    0x0000_0001,
+    0x8000_0001,
+    0x007F_FFFF,
+    0x0000_0000,
+    0x8000_0000,
+];
+
+/// Types of boxes that are skipped.
+const OTHERS: [[u8; 4]; 7] = [
+    *b"free",
+    *b"mesi",
+    *b"nesh",
+    *b"MESH",
+    *b"mdat",
+    *b"\0\0\0\0",
+    *b"hsem",
+];
+
+#[derive(Clone)]
+pub struct List {
+    pub parts: Vec<Part>,
+    /// Bytes behind the last box.
+    pub rest: Vec<u8>,
+}
+
+impl List {
+    pub fn spelled(&self) -> Spelled {
+        let mut spelled = Spelled::default();
+        for part in &self.parts {
+            spelled.push(part);
+        }
+        spelled.bytes.extend(&self.rest);
+        spelled
+    }
+
+    pub fn random(random: &mut Random) -> List {
+        let boxes = random.pick(&[0, 1, 1, 1, 1, 1, 2, 2, 2, 3, 4]);
+        let parts = (0..boxes).map(|_| random_part(random)).collect();
+        let n = random.pick(&[0, 0, 1, 2, 3, 4, 5, 6, 7]);
+        List {
+            parts,
+            rest: free_bytes(random, n),
+        }
+    }
+}
+
+fn random_part(random: &mut Random) -> Part {
+    if random.below(5) > 0 {
+        return Part::Mesh(mesh(random));
+    }
+    let box_type = random.pick(&OTHERS);
+    let body = match random.below(3) {
+        0 => spell::body(&mesh(random)).bytes,
+        _ => {
+            let n = random.below(20);
+            random.bytes(n)
+        }
+    };
+    Part::Other(box_type, body)
+}
+
+/// A list of one mesh and nothing else.
+pub fn lone(mesh: &Mesh) -> Vec<u8> {
+    let mut spelled = Spelled::default();
+    spelled.push_box(MESH, &spell::body(mesh));
+    spelled.bytes
+}
+
+/// A small mesh.
+pub fn mesh(random: &mut Random) -> Mesh {
+    let (pool, vertices) = (small_count(random), small_count(random));
+    let submeshes = random.pick(&[1, 1, 2, 2, 3, 4, 9]);
+    let points: Vec<usize> = (0..submeshes)
+        .map(|_| random.pick(&[1, 1, 2, 3, 3, 4, 6, 7, 12]))
+        .collect();
+    sized(random, pool, vertices, &points)
+}
+
+/// A mesh of these counts.
+pub fn sized(random: &mut Random, pool: usize, vertices: usize, points: &[usize]) -> Mesh {
+    let rest = random.pick(&[0, 0, 0, 1, 2, 9]);
+    Mesh {
+        pool: (0..pool).map(|_| word(random)).collect(),
+        coordinates: numbers(random, FIELDS * vertices, pool),
+        submeshes: points
+            .iter()
+            .map(|&n| submesh(random, n, vertices))
+            .collect(),
+        free: random.pick(&[0, 0, 0xFF, 0xFF, 0x55, 0xAA]),
+        rest: free_bytes(random, rest),
+    }
+}
+
+fn submesh(random: &mut Random, points: usize, vertices: usize) -> Submesh {
+    Submesh {
+        texture: random.word() as u8,
+        mode: random.word() as u8,
+        points: numbers(random, points, vertices),
+    }
+}
+
+/// Numbers below a limit, the lowest and the highest more often than others.
+fn numbers(random: &mut Random, n: usize, limit: usize) -> Vec<i64> {
+    let number = |_| match random.below(4) {
+        0 => 0,
+        1 => limit as i64 - 1,
+        _ => random.below(limit) as i64,
+    };
+    (0..n).map(number).collect()
+}
+
+fn word(random: &mut Random) -> u32 {
+    match random.below(2) {
+        0 => random.pick(&WORDS),
+        _ => random.word(),
+    }
+}
+
+/// Mostly very few, now and then around a power of two.
+fn small_count(random: &mut Random) -> usize {
+    match random.below(32) {
+        0..=22 => 1 + random.below(6),
+        23..=28 => random.pick(&[7, 8, 9, 15, 16, 17]),
+        29..=30 => random.pick(&[31, 32, 33]),
+        _ => random.pick(&[63, 64, 65]),
+    }
+}
+
+/// Bytes that are all 0, all 0xFF or random.
+fn free_bytes(random: &mut Random, n: usize) -> Vec<u8> {
+    match random.below(3) {
+        0 => vec![0; n],
+        1 => vec![0xFF; n],
+        _ => random.bytes(n),
+    }
+}
+
+/// Document 01's m1.
+pub fn m1() -> Mesh {
+    Mesh {
+        pool: vec![0, 0x3F80_0000],
+        coordinates: vec![0, 0, 0, 0, 0, 1, 0, 0, 1, 0, 0, 1, 0, 0, 1],
+        submeshes: vec![Submesh {
+            texture: 0,
+            mode: 0,
+            points: vec![0, 1, 2],
+        }],
+        free: 0,
+        rest: Vec::new(),
+    }
+}
+
+/// Counts of coordinates, of vertices and of the points of each submesh.
+pub type Counts = (usize, usize, Vec<usize>);
+
+/// Around each power of two and around each limit, the others small.
+pub fn large_counts() -> Vec<Counts> {
+    let mut counts = Vec::new();
+    for n in around_powers(10_000) {
+        counts.push((n, 3, vec![4, 1]));
+    }
+    for m in around_powers(32_000) {
+        counts.push((2, m, vec![5, 3]));
+    }
+    for n in [127_999, 128_000, 128_001] {
+        counts.push((1, 1, vec![n]));
+        counts.push((3, 3, vec![2, n, 2]));
+    }
+    counts.push((4, 5, vec![128_000, 128_000]));
+    for submeshes in [255, 256, 257, 65_535, 65_536, 65_537] {
+        counts.push((1, 1, vec![1; submeshes]));
+    }
+    counts
+}
+
+/// Around each power of two up to the limit, and around the limit.
+fn around_powers(limit: usize) -> impl Iterator<Item = usize> {
+    (1..)
+        .map(|power| 1usize << power)
+        .take_while(move |n| *n < limit)
+        .chain([limit])
+        .flat_map(|n| [n - 1, n, n + 1])
+}

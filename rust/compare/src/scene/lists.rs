@@ -1,0 +1,89 @@
+//! Scene calls of kind 2.
+
+use spell::Spelled;
+
+use crate::inputs::random::Random;
+use crate::mesh::damage::{damaged, every_byte, every_size, every_stray_of, stray_of};
+use crate::mesh::payloads::{lone, m1, sized, List};
+use crate::options::Options;
+use crate::scene::calls::Calls;
+use crate::scene::model::Call;
+use crate::scene::numbers::any_given;
+use crate::tally::Tally;
+
+/// So many lists are damaged in every place.
+const LISTS: usize = 24;
+/// So many lists are taken with some damaged copies.
+const RANDOM: usize = 10_000;
+/// Damaged copies of a random list.
+const COPIES: usize = 2;
+
+pub fn run(options: &Options, times: usize) -> Tally {
+    let what = "against mesh::parse_meshes; refusals and coordinate numbers against the model";
+    let mut calls = Calls::new(options, "scene kind 2", what);
+    for payload in [Vec::new(), vec![0xFF; 7], lone(&m1())] {
+        every(&mut calls, &payload);
+    }
+    for _ in 0..LISTS * times {
+        every_damage(&mut calls);
+    }
+    for _ in 0..RANDOM * times {
+        random_damage(&mut calls);
+    }
+    large(&mut calls);
+    calls.tally
+}
+
+/// Kind 2 looks at none of the numbers.
+fn call<'a>(random: &mut Random, payload: &'a [u8]) -> Call<'a> {
+    Call {
+        kind: 2,
+        payload,
+        given: any_given(random),
+    }
+}
+
+fn every(calls: &mut Calls, payload: &[u8]) {
+    let call = call(&mut calls.random, payload);
+    calls.every(call);
+}
+
+fn some(calls: &mut Calls, payload: &[u8]) {
+    let call = call(&mut calls.random, payload);
+    calls.some(call);
+}
+
+fn every_damage(calls: &mut Calls) {
+    let list = List::random(&mut calls.random);
+    let spelled = list.spelled();
+    every(calls, &spelled.bytes);
+    every_byte(&spelled, |payload| some(calls, payload));
+    every_size(&list, |payload| some(calls, payload));
+    every_stray_of(&list, |payload| some(calls, payload));
+}
+
+fn random_damage(calls: &mut Calls) {
+    let list = List::random(&mut calls.random);
+    let spelled = list.spelled();
+    some(calls, &spelled.bytes);
+    for _ in 0..COPIES {
+        let payload = damaged(&mut calls.random, &spelled);
+        some(calls, &payload);
+    }
+    let payload = stray_of(&mut calls.random, &list);
+    some(calls, &payload);
+}
+
+/// A mesh of the largest counts, whole and damaged.
+fn large(calls: &mut Calls) {
+    let mesh = sized(&mut calls.random, 10_000, 32_000, &[128_000, 1, 3]);
+    let spelled = Spelled {
+        bytes: lone(&mesh),
+        ..Spelled::default()
+    };
+    some(calls, &spelled.bytes);
+    for _ in 0..COPIES {
+        let payload = damaged(&mut calls.random, &spelled);
+        some(calls, &payload);
+    }
+}

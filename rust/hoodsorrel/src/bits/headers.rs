@@ -1,0 +1,48 @@
+//! Box headers.
+
+use crate::answer::{Answer, asked, low, size};
+use crate::bits::ByteCursor;
+use crate::raw;
+use crate::refusal::{Needed, Refusal};
+
+/// A box: its type, and where its body begins and ends. The next box begins where the body ends.
+#[derive(Clone, Copy, Debug, PartialEq, Eq, Hash)]
+pub struct BoxHeader {
+    /// The type, four letters as a number.
+    pub fourcc: u32,
+    /// Where the body begins.
+    pub body: usize,
+    /// Where it ends.
+    pub end: usize,
+}
+
+/// The header at a place of a list of boxes, or none where the list ends: with fewer than 8 bytes left.
+///
+/// Refused with 6 for a size below 8 or past the end.
+///
+/// ```
+/// use hoodsorrel::bits::{box_header, ByteCursor};
+/// use hoodsorrel::Refusal;
+///
+/// // All boxes of a list: a 'free' box of two bytes, an empty 'mesh' box, and three free bytes.
+/// let list = b"\0\0\0\x0Afree..\0\0\0\x08mesh...";
+/// let mut here = ByteCursor::new();
+/// let mut types = Vec::new();
+/// while let Some(found) = box_header(list, here)? {
+///     types.push((found.fourcc.to_be_bytes(), found.end - found.body));
+///     here = ByteCursor { at: found.end };
+/// }
+/// assert_eq!(types, [(*b"free", 2), (*b"mesh", 0)]);
+///
+/// assert_eq!(box_header(b"\0\0\0\x07mesh", ByteCursor::new()), Err(Refusal::BoxSize));
+/// # Ok::<(), Refusal>(())
+/// ```
+pub fn box_header(s: &[u8], c: ByteCursor) -> Result<Option<BoxHeader>, Refusal> {
+    let Answer { count, words } = asked(|_| Needed::One(0), |words| raw::header(s, c.at, words))?;
+    let [fourcc, body, end, ..] = words;
+    Ok((count > 0).then(|| BoxHeader {
+        fourcc: low(fourcc),
+        body: size(body),
+        end: size(end),
+    }))
+}
