@@ -6,14 +6,6 @@ use std::str::FromStr;
 
 use crate::scene::Given;
 
-const DEFAULT: Given = Given {
-    rings: 18,
-    sectors: 36,
-    cells: 4,
-    radius: 1.0,
-    face_width: 1024,
-};
-
 pub enum Request {
     Help,
     Draw(Options),
@@ -41,7 +33,7 @@ impl Request {
         let mut plain = Vec::new();
         let mut out = None;
         let mut drawn = Drawn {
-            given: DEFAULT,
+            given: Given::default(),
             mesh: 0,
         };
         while let Some(word) = words.next() {
