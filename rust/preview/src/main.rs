@@ -1,5 +1,5 @@
 //! Draws a payload as an SVG picture and lists what was read. Every number of the drawing comes from the scene call of
-//! libprobe.a; nothing here parses a payload. `preview --help` says how it is used.
+//! the library; nothing here parses a payload. `preview --help` says how it is used.
 
 mod axes;
 mod colours;
