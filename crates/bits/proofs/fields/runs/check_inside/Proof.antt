@@ -1,7 +1,7 @@
 -- `check_inside` meets its contract: the first field of an odd number of them, and then pairs. Assumes nothing.
 use mathlib.Core.Path.{_≡_, sym, ap, _∙_}
-use mathlib.Core.List.{List, [], _∷_}
-use Prim.Native.Nat.{ℕ, _+_, _-_, _*_, _%_, _≤_}
+use mathlib.Core.List.{List, []}
+use Prim.Native.Nat.{ℕ, _+_, _-_, _*_, _%_}
 use native.Mathlib.Omega.{arith}
 use Rattle.bits.specs.Number.{steppedTo}
 use Rattle.bits.specs.Internal.{Inside}

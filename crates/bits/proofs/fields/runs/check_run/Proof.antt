@@ -1,8 +1,6 @@
 -- `check_run` meets its contract: the fields are all there, or they are taken one by one. Assumes nothing.
-use Prim.Native.Nat.{ℕ, _+_, _*_, _≤_, _<_}
-use mathlib.Core.Path.{_≡_, sym, ap, _∙_}
+use mathlib.Core.Path.{sym, _∙_}
 use native.Mathlib.Omega.{arith}
-use lib.ListN.{length}
 use Rattle.bits.specs.Number.{widthOf}
 use Rattle.bits.specs.Run.{zeros}
 use Rattle.bits.proofs.ThereLaws.{there-inside}

@@ -1,5 +1,4 @@
 -- `turned` meets its contract, for one running number and for five. Assumes nothing.
-use mathlib.Core.Path.{_≡_, refl}
 use Rattle.bits.proofs.fields.runs.turned.Statement.{statement}
 use Rattle.bits.proofs.fields.runs.turned.Tie as tie
 
