@@ -83,8 +83,8 @@ abbrev pub lastOf : ℕ → List ℕ → ℕ
 lastOf x [] = x
 lastOf x (y ∷ l) = lastOf y l
 
--- n fields of a width of at most 16 from bit p on lie inside a body of at most 67,108,864 bytes, and not in its first
--- four bytes
+-- n fields of a width from 1 to 16 from bit p on lie inside a body of at most 67,108,864 bytes, and 33 bits or more
+-- stand before them, so that five bytes end with each
 unfoldable pub runThere : List ℕ → ℕ → ℕ → ℕ → Bool
 runThere s p w n =
     ((leb (length s) 67108864 && leb 1 w) && (leb w 16 && leb 33 p)) && leb (p + n * w) (8 * length s)

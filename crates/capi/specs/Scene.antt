@@ -1,4 +1,4 @@
--- The words of a scene's answer: its kind, up to four words of what it names, and the three lengths.
+-- The words of a scene's answer: its kind, four words of what it names, 0 where it has fewer, and the three lengths.
 use Prim.Native.Nat.{ℕ}
 use mathlib.Core.List.{List, [], _∷_, _++_}
 use Rattle.scene.specs.Scene.{Named, crop, padding, counts}

@@ -11,8 +11,9 @@ use Rattle.bits.proofs.VerdictLaws.{then-yes, then-no, then-value}
 use Rattle.payload.specs.Mesh.{Submesh, Mesh}
 use Rattle.bits.specs.Run.{zeros, Found, complete, readRun}
 use Rattle.payload.specs.MeshSpells.{aligned, verticesAt}
-use Rattle.payload.specs.MeshRead.{inRange, readSubmeshes, readWords, meshOf, afterVertices, afterVertexCount}
-use Rattle.payload.specs.MeshRead.{afterPool, afterPoolCount, afterCounts, readMesh}
+use Rattle.payload.specs.MeshRead.{inRange, readSubmeshes, meshOf, afterVertices, afterVertexCount}
+use Rattle.payload.specs.MeshRead.{afterPool, afterPoolCount, readMesh}
+use Rattle.payload.specs.Internal.{readWords, afterCounts}
 use Rattle.bits.proofs.RunLaws.{complete-yes, complete-no}
 use Rattle.payload.proofs.RangeLaws.{inrange-low, inrange-high, inrange-yes, complete-then, complete-sooner}
 use Rattle.payload.proofs.RangeLaws.{found-same, words-read}

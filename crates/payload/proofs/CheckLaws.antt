@@ -12,9 +12,9 @@ use Rattle.bits.proofs.VerdictLaws.{limited-yes, mapped-value, mapped-declined}
 use Rattle.payload.specs.Mesh.{Submesh}
 use Rattle.bits.specs.Run.{zeros, RunSpells, Found, readRun, judged}
 use Rattle.payload.specs.MeshSpells.{aligned, verticesAt}
-use Rattle.payload.specs.MeshRead.{many, submeshOf, readSubmesh, readSubmeshes, readWords, meshOf, afterCounts}
+use Rattle.payload.specs.MeshRead.{many, submeshOf, readSubmesh, readSubmeshes, meshOf}
 use Rattle.payload.specs.MeshDrawing.{pointCount}
-use Rattle.payload.specs.Internal.{pointsEnd, submeshesSize, bodySize}
+use Rattle.payload.specs.Internal.{readWords, afterCounts, pointsEnd, submeshesSize, bodySize}
 use Rattle.bits.proofs.RunLaws.{run-spells}
 use Rattle.payload.proofs.RangeLaws.{many-none, many-declined, many-on}
 use Rattle.payload.proofs.SubmeshLaws.{submesh-run, submesh-spells, submeshes-spell}

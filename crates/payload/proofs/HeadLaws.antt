@@ -11,9 +11,9 @@ use Rattle.bits.specs.Number.{widthOf}
 use Rattle.bits.specs.Run.{zeros, readRun}
 use Rattle.payload.specs.Mesh.{Mesh}
 use Rattle.payload.specs.MeshSpells.{SubmeshesSpell, aligned, verticesAt}
-use Rattle.payload.specs.MeshRead.{many, readSubmesh, readWords, readMesh}
+use Rattle.payload.specs.MeshRead.{many, readSubmesh, readMesh}
 use Rattle.payload.specs.MeshDrawing.{submeshWords, coordinate, meshWords}
-use Rattle.payload.specs.Internal.{WasRead, runNumbers, VerticesThere, numbersOf, SubmeshesThere, submeshesOf, submeshesRead, wordAt, Pooled, meshRead, HeadOf}
+use Rattle.payload.specs.Internal.{readWords, WasRead, runNumbers, VerticesThere, numbersOf, SubmeshesThere, submeshesOf, submeshesRead, wordAt, Pooled, meshRead, HeadOf}
 use Rattle.payload.specs.declared.mesh.head.Head.{Head}
 use Rattle.payload.proofs.FillLaws.{getD-sets}
 use Rattle.payload.proofs.StepLaws.{read-value}

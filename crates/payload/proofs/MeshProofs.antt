@@ -5,7 +5,8 @@ use Rattle.bits.specs.Field.{bitAt, field}
 use Rattle.bits.specs.Number.{ranOn, leastFrom, widthOf}
 use Rattle.bits.specs.Header.{sizedAt, headerAt}
 use Rattle.bits.specs.Run.{complete, readRun}
-use Rattle.payload.specs.MeshRead.{inRange, many, readSubmesh, readSubmeshes, readWords, afterVertices, afterCounts, afterPoolCount, readMesh, readBoxes, readFrom}
+use Rattle.payload.specs.MeshRead.{inRange, many, readSubmesh, readSubmeshes, afterVertices, afterPoolCount, readMesh, readBoxes, readFrom}
+use Rattle.payload.specs.Internal.{readWords, afterCounts}
 use Rattle.bits.specs.Put.{bytesOf}
 use Rattle.payload.specs.MeshDrawing.{drawnNumbers, drawnFloats, submeshWords, runWords, submeshRecords, recordsFrom}
 use Rattle.payload.specs.Packed.{bits, fieldsNumber, packed}

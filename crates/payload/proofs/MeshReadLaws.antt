@@ -13,7 +13,8 @@ use Rattle.payload.specs.Mesh.{Mesh}
 use Rattle.bits.specs.Run.{zeros, RunSpells}
 use Rattle.payload.specs.MeshSpells.{submeshBits, sizes, SubmeshesSpell, meshVertices, aligned, verticesAt}
 use Rattle.payload.specs.MeshSpells.{verticesEnd, submeshesAt, submeshesEnd, MeshSpells}
-use Rattle.payload.specs.MeshRead.{many, readSubmesh, readSubmeshes, readWords, meshOf, readMesh}
+use Rattle.payload.specs.MeshRead.{many, readSubmesh, readSubmeshes, meshOf, readMesh}
+use Rattle.payload.specs.Internal.{readWords}
 use Rattle.bits.proofs.RunLaws.{complete-value, run-spells, spells-run}
 use Rattle.payload.proofs.RangeLaws.{inrange-value, words-length, words-at}
 use Rattle.payload.proofs.SubmeshLaws.{submeshes-value, submeshes-on, submeshes-spell, spell-submeshes}

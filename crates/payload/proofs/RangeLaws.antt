@@ -17,7 +17,8 @@ use Rattle.bits.proofs.VerdictLaws.{le-or-lt, clash, tested-value, then-yes, th
 use Rattle.bits.proofs.NumberLaws.{width-enough, width-least}
 use Rattle.bits.specs.Run.{Found, complete}
 use Rattle.payload.specs.MeshSpells.{EachSpells, sizes}
-use Rattle.payload.specs.MeshRead.{inRange, notZero, many, readWord, readWords}
+use Rattle.payload.specs.MeshRead.{inRange, notZero, many, readWord}
+use Rattle.payload.specs.Internal.{readWords}
 use Rattle.bits.proofs.RunLaws.{complete-yes, complete-no}
 
 -- ---- widths

@@ -1,5 +1,5 @@
 -- What the walk that stores records learns of a mesh list that was read, and that it stores the list's records piece by piece. Assumes nothing.
-use Prim.Native.Nat.{ℕ, suc, _+_, _-_, _*_, _≤_, _<_}
+use Prim.Native.Nat.{ℕ, suc, _+_, _*_, _≤_, _<_}
 use mathlib.Core.Path.{_≡_, refl, sym, ap, _∙_}
 use mathlib.Core.List.{List, [], _∷_, _++_, append-assoc, append-nil}
 use native.Mathlib.Omega.{arith}
@@ -15,7 +15,6 @@ use Rattle.payload.specs.Internal.{WasRead, valueOr, submeshesOf, Taken,
 use Rattle.payload.specs.declared.mesh.head.Head.{Head}
 use Rattle.payload.specs.declared.mesh.submeshes.Submeshes.{Submeshes}
 use Rattle.payload.specs.declared.mesh.submeshes.NextSubmesh.{NextSubmesh}
-use Rattle.payload.specs.declared.mesh.records.Record.{Record}
 use Rattle.payload.specs.declared.mesh.records.RecordPlace.{RecordPlace}
 use Rattle.payload.proofs.FillLaws.{sets-append}
 use Rattle.payload.proofs.StepLaws.{read-value}

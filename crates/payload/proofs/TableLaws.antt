@@ -5,14 +5,14 @@ use mathlib.Core.List.{List, [], _∷_}
 use native.Mathlib.Omega.{arith}
 use lib.ListN.{length, set, length-append}
 use lib.Seq.{sets}
-use Rattle.bits.specs.Verdict.{Verdict, accepted, declined, mapped}
+use Rattle.bits.specs.Verdict.{accepted, declined, mapped}
 use Rattle.bits.specs.Field.{field}
 use Rattle.bits.proofs.VerdictLaws.{then-yes, then-no, mapped-value, mapped-declined}
 use Rattle.payload.specs.Mesh.{Submesh, Mesh}
 use Rattle.payload.specs.MeshSpells.{meshVertices}
-use Rattle.payload.specs.MeshRead.{readWords, readMesh}
+use Rattle.payload.specs.MeshRead.{readMesh}
 use Rattle.payload.specs.MeshDrawing.{pointCount}
-use Rattle.payload.specs.Internal.{WasRead, pointsOf, submeshesOf, Taken, meshRead, bodySize}
+use Rattle.payload.specs.Internal.{readWords, WasRead, pointsOf, submeshesOf, Taken, meshRead, bodySize}
 use Rattle.payload.specs.declared.mesh.submeshes.Submeshes.{Submeshes}
 use Rattle.payload.specs.declared.mesh.submeshes.NextSubmesh.{NextSubmesh}
 use Rattle.payload.specs.Tables.{submeshRows, allPoints, poolTable, coordinateTable, submeshTable, pointTable, tableLengths, bodyRead}

@@ -1,18 +1,25 @@
 -- The theorems of this crate that crates above may cite: what specs/ states under a name, and laws of the definitions
 -- that theirs are made of. Assumes nothing.
 use Prim.Native.Nat.{ℕ, _+_, _*_, _≤_}
-use mathlib.Core.Path.{_≡_}
-use mathlib.Core.Bool.{true}
+use mathlib.Core.Path.{_≡_, refl}
+use mathlib.Core.Bool.{true, false, cond, _&&_}
 use mathlib.Core.List.{List, _++_}
 use lib.ListN.{length}
 use lib.Seq.{sets}
+use lib.Ieee.{Float, ofBits, add, eq, le, lt}
+use lib.Ieee.Scale.{finite}
+use borrow.Author.Tests.{le-leb}
 use Rattle.bits.specs.Verdict.{Verdict, accepted, needs, declined, andThen, mapped}
 use Rattle.bits.specs.Verdict.{limited}
-use Rattle.payload.specs.Crop.{usable}
+use Rattle.payload.specs.Float.{f0, f1}
+use Rattle.payload.specs.Crop.{sideUsable, usable, full}
 use Rattle.payload.specs.Equi.{cropOf, equiFields, equiUsable}
+use Rattle.payload.specs.Sphere.{gridUsable, gridTriangles, gridUvs, sphereNumbers, sphereUvs}
+use Rattle.payload.specs.Cube.{cellsUsable, shareUsable, cubeTriangles, cubePoints, cubeNumbers, cubeFloats}
 use Rattle.payload.specs.Mesh.{Mesh}
 use Rattle.payload.specs.MeshRead.{readMeshes}
-use Rattle.payload.specs.MeshDrawing.{drawnRecords, submeshTotal, pointTotal}
+use Rattle.payload.specs.MeshDrawing.{drawnNumbers, drawnFloats, drawnRecords, submeshTotal, pointTotal}
+use Rattle.payload.specs.Meshes.{listSize}
 use Rattle.payload.specs.Laws.{EquiReads, EquiWrites, CbmpReads, CbmpWrites}
 use Rattle.payload.specs.Laws.{MeshesReads, MeshReads, MeshWrites, TablesRead}
 use Rattle.payload.specs.WrittenLaws.{EquiWritesInto, CbmpWritesInto, MeshWritesInto}
@@ -23,6 +30,7 @@ use Rattle.payload.specs.CropMarked.{CropMarked}
 use Rattle.payload.specs.SphereMarked.{SphereMarked}
 use Rattle.payload.specs.CubeMarked.{CubeMarked}
 use Rattle.payload.specs.MeshMarked.{MeshMarked}
+use Rattle.payload.specs.declared.crop.Bounds.{Bounds}
 use Rattle.payload.specs.declared.equi.EquiFields.{EquiFields}
 use Rattle.payload.proofs.FillLaws as fill
 use Rattle.payload.proofs.PayloadLaws as payload
@@ -127,6 +135,69 @@ fields-refusal = equi.fields-refusal
 
 pub usable-read : (ρ ρ′ : EquiFields) → equiUsable ρ ≡ accepted ρ′ → (usable (cropOf ρ) ≡ true) × (ρ ≡ ρ′)
 usable-read = equi.usable-read
+
+-- ---- what makes lists, by its tests
+
+pub sphere-numbers : (rings sectors : ℕ) (b : Bounds)
+    → sphereNumbers rings sectors b
+    ≡ cond (gridUsable rings sectors)
+    (cond (usable b) (accepted (gridTriangles rings sectors (eq (b .top) f0) (eq (b .bottom) f0))) (declined 10))
+    (declined 9)
+unfolding sphereNumbers
+sphere-numbers rings sectors b = refl
+
+pub sphere-uvs : (rings sectors : ℕ)
+    → sphereUvs rings sectors ≡ cond (gridUsable rings sectors) (accepted (gridUvs rings sectors)) (declined 9)
+unfolding sphereUvs
+sphere-uvs rings sectors = refl
+
+pub cube-numbers : (cells : ℕ)
+    → cubeNumbers cells ≡ cond (cellsUsable cells) (accepted (cubeTriangles cells)) (declined 9)
+unfolding cubeNumbers
+cube-numbers cells = refl
+
+pub cube-floats : (cells : ℕ) (radius share : Float)
+    → cubeFloats cells radius share
+    ≡ cond (cellsUsable cells)
+    (cond (finite radius && shareUsable share) (accepted (cubePoints cells radius share)) (declined 11)) (declined 9)
+unfolding cubeFloats
+cube-floats cells radius share = refl
+
+pub list-size : (l : List Mesh)
+    → listSize l
+    ≡ record {
+      meshes = length l;
+      submeshes = submeshTotal l;
+      points = pointTotal l;
+      numbers = length (drawnNumbers l);
+      floats = length (drawnFloats l);
+      records = length (drawnRecords l);
+    }
+unfolding listSize
+list-size l = refl
+
+-- ---- and the tests themselves
+
+pub crop-tested : (ρ : EquiFields) → equiUsable ρ ≡ cond (usable (cropOf ρ)) (accepted ρ) (declined 10)
+unfolding equiUsable
+crop-tested ρ = refl
+
+pub grid-in-limits : (rings sectors : ℕ) → 2 ≤ rings → 3 ≤ sectors → (rings + 1) * (sectors + 1) ≤ 65536
+    → gridUsable rings sectors ≡ true
+unfolding gridUsable
+grid-in-limits rings sectors a b c = simp (le-leb 2 rings a, le-leb 3 sectors b, le-leb ((rings + 1) * (sectors + 1)) 65536 c)
+
+pub cells-in-limits : (cells : ℕ) → 1 ≤ cells → cells ≤ 103 → cellsUsable cells ≡ true
+unfolding cellsUsable
+cells-in-limits cells a b = simp (le-leb 1 cells a, le-leb cells 103 b)
+
+pub full-usable : usable full ≡ true
+unfolding usable sideUsable ofBits add eq lt le
+full-usable = refl
+
+pub one-unusable : shareUsable f1 ≡ false
+unfolding shareUsable ofBits le lt
+one-unusable = refl
 
 -- ---- kind 2: it is read or refused by its bytes alone, and what was read takes its room among them
 

@@ -12,7 +12,7 @@ use Rattle.payload.specs.Mesh.{Submesh, Mesh}
 use Rattle.bits.specs.Run.{zeros, Found, readRun, summed}
 use Rattle.bits.specs.declared.fields.runs.Run.{Run}
 use Rattle.payload.specs.MeshSpells.{meshVertices, part, meshType, aligned, verticesAt}
-use Rattle.payload.specs.MeshRead.{many, readSubmesh, readMesh, readFrom}
+use Rattle.payload.specs.MeshRead.{many, readSubmesh, afterVertexCount, readMesh, readFrom}
 use Rattle.payload.specs.MeshDrawing.{pointCount, pointTotal, drawnNumbers, drawnFloats, recordsFrom}
 use Rattle.payload.specs.declared.mesh.head.Head.{Head}
 use Rattle.payload.specs.declared.mesh.draw.DrawPlace.{DrawPlace}
@@ -45,6 +45,17 @@ valueOr a (declined k) = a
 -- the numbers of a run, none where it was refused
 abbrev pub runNumbers : Found (List ℕ) → List ℕ
 runNumbers v = valueOr ([], 0) v .0
+
+-- ---- a body's parts as the code reads them
+
+-- the n words from bit p on, where they are complete
+unfoldable pub readWords : List ℕ → ℕ → ℕ → List ℕ
+readWords s p zero = []
+readWords s p (suc n) = field s p 32 ∷ readWords s (p + 32) n
+
+-- after the vertex count, where the pool is complete
+unfoldable pub afterCounts : List ℕ → ℕ → ℕ → Found Mesh
+afterCounts s n m = afterVertexCount s n (readWords s 32 n) m (verticesAt n)
 
 -- ---- what is known of a body that was read
 

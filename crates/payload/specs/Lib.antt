@@ -1,5 +1,5 @@
--- What the crate's contracts cite, a file to a subject. `Laws` and the files named `..Marked` state theorems about
--- these definitions; their proofs are in proofs/.
+-- What the crate's contracts cite, a file to a subject. The files named `..Laws` and `..Marked`, and `Refusals`, state
+-- theorems about these definitions; their proofs are in proofs/. What is named `Internal..` is for private functions.
 pub mod Fill
 pub mod Lent
 pub mod Float

@@ -77,15 +77,6 @@ readMesh s =
     (inRange 1 10000 (field s 0 32)
     (afterPoolCount s (field s 0 32)))
 
--- the n words from bit p on, where they are complete
-unfoldable pub readWords : List ℕ → ℕ → ℕ → List ℕ
-readWords s p zero = []
-readWords s p (suc n) = field s p 32 ∷ readWords s (p + 32) n
-
--- after the vertex count, where the pool is complete
-unfoldable pub afterCounts : List ℕ → ℕ → ℕ → Found Mesh
-afterCounts s n m = afterVertexCount s n (readWords s 32 n) m (verticesAt n)
-
 -- ---- a list of boxes
 
 -- a mesh box gives its mesh, another is skipped; `rest` reads on from a place

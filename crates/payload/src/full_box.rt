@@ -5,12 +5,12 @@ use bits::Seek;
 ghost use mathlib.Core.Path.{_≡_};
 ghost use Rattle.payload.specs.Payload.{fullBox, fullBoxSays};
 
-pub enum FullBox {
+pub(crate) enum FullBox {
     Body(ByteCursor),
     Declined(u8),
 }
 
-pub fn full_box(s: &[u8]) -> FullBox
+pub(crate) fn full_box(s: &[u8]) -> FullBox
     ensures { λ r. ⌜ fullBoxSays r ≡ fullBox (now (s .entry)) ⌝ }
 {
     let ByteRead::Value(version, after) = ByteCursor::new().u8(s) else {

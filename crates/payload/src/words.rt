@@ -22,7 +22,7 @@ fn put_words(out: &mut [u8], words: &[u32])
 }
 
 // Fills the front of the buffer where the words fit.
-pub fn fill_words(out: &mut [u8], words: &[u32]) -> Filled
+pub(crate) fn fill_words(out: &mut [u8], words: &[u32]) -> Filled
     ensures answer { λ r. ⌜ filledSays r
         ≡ answerFor (inItems 1 (accepted (wordBytes (now (words .entry))))) (atEntry (out ∷ [])) ⌝ }
     ensures buffers { λ _. ⌜ now (out .exit) ∷ []

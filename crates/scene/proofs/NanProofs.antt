@@ -11,8 +11,7 @@ use Rattle.payload.specs.Float.{f0, f1, ratio}
 use Rattle.payload.specs.Sphere.{gridUvs, sphereUvs}
 use Rattle.payload.specs.Cube.{cubeFloats}
 use Rattle.payload.specs.NanLaws.{Number}
-use Rattle.payload.proofs.Theorems.{nan-laws}
-use Rattle.payload.proofs.Theorems.{share-laws}
+use Rattle.payload.proofs.Theorems.{nan-laws, share-laws, sphere-uvs, cube-floats}
 use Rattle.scene.specs.Scene.{equi, cbmp, Given, GridLimits, CubeLimits, Call}
 use Rattle.scene.specs.Laws.{InLimits, FittingReading, drawn}
 use Rattle.scene.specs.NanLaws.{SceneNumbers}
@@ -22,13 +21,11 @@ use Rattle.scene.proofs.SceneProofs.{grid-usable, cells-usable}
 
 grid-made : (g : Given) → GridLimits g
     → sphereUvs (g .rings) (g .sectors) ≡ accepted (gridUvs (g .rings) (g .sectors))
-unfolding sphereUvs
-grid-made g h = rw (grid-usable g h)
+grid-made g h = sphere-uvs (g .rings) (g .sectors) ∙ rw (grid-usable g h)
 
 cube-made : (c : Call) → InLimits cbmp c → (ρ : FittingReading cbmp c)
     → cubeFloats (c .given .cells) (c .given .radius) (ratio (ρ .reading) (c .given .face-width))
     ≡ accepted (drawn ρ .floats)
-unfolding cubeFloats
 cube-made c i ρ =
     let g = c .given in
     let h : CubeLimits g = i .numbers in
@@ -36,7 +33,7 @@ cube-made c i ρ =
     let F = g .face-width in
     let u = share-laws .usable p F (ρ .spells .limit) (h .width-least) (h .width-most)
     ∙ lt-ltb (2 * p) F (ρ .drawable) in
-    rw (cells-usable g h, h .finite-radius, u)
+    cube-floats (g .cells) (g .radius) (ratio p F) ∙ rw (cells-usable g h, h .finite-radius, u)
 
 sphere : (c : Call) → InLimits equi c → (ρ : FittingReading equi c) (b : ℕ) → List·Memᴰ b (drawn ρ .floats)
     → Number b × (le f0 (ofBits binary32 b) ≡ true) × (le (ofBits binary32 b) f1 ≡ true)

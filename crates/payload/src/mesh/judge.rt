@@ -7,7 +7,7 @@ ghost use Rattle.payload.specs.MeshWrite.{allBelow, meshWritten};
 ghost use Rattle.payload.specs.InternalWriting.{rowFits, rowsFit, countsFit, lengthsFit, sizeOf, judgedSays};
 
 // The size of the tables' box, or that they are no mesh.
-pub enum Judged {
+pub(in crate::mesh) enum Judged {
     Size(usize),
     NoMesh,
 }
@@ -92,7 +92,12 @@ fn lengths_fit(k: usize, q: usize) -> bool
 }
 
 // Judges four tables.
-pub fn judge(pool: &[u32], coordinates: &[u16], rows: &[u32], points: &[u16]) -> Judged
+pub(in crate::mesh) fn judge(
+    pool: &[u32],
+    coordinates: &[u16],
+    rows: &[u32],
+    points: &[u16],
+) -> Judged
     ensures { λ r. ⌜ judgedSays r ≡ mapped length
         (meshWritten (now (pool .entry)) (now (coordinates .entry)) (now (rows .entry)) (now (points .entry))) ⌝ }
 {

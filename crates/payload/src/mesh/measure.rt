@@ -12,10 +12,10 @@ ghost use Prim.Native.Nat.{_+_, _*_, _≤_, _<_};
 ghost use lib.ListN.{length};
 ghost use Rattle.bits.specs.Verdict.{mapped};
 ghost use Rattle.bits.specs.Verdict.{limited};
-ghost use Rattle.payload.specs.MeshRead.{many, readSubmesh, readSubmeshes, afterCounts, readMesh, readMeshes};
-ghost use Rattle.payload.specs.Internal.{SubmeshPlace, pointsEnd, submeshesSize, bodySize, Room, withBody};
-ghost use Rattle.payload.specs.Internal.{boxTotals, noTotals, totalsOf, submeshSays, submeshesSays, bodySays};
-ghost use Rattle.payload.specs.Internal.{totalsSays};
+ghost use Rattle.payload.specs.MeshRead.{many, readSubmesh, readSubmeshes, readMesh, readMeshes};
+ghost use Rattle.payload.specs.Internal.{afterCounts, SubmeshPlace, pointsEnd, submeshesSize, bodySize, Room};
+ghost use Rattle.payload.specs.Internal.{withBody, boxTotals, noTotals, totalsOf, submeshSays, submeshesSays};
+ghost use Rattle.payload.specs.Internal.{bodySays, totalsSays};
 ghost use Rattle.payload.specs.Meshes.{listSize, measuredSays};
 ghost use Rattle.payload.specs.Tables.{tableLengths, bodyRead, tableLengthsSays};
 

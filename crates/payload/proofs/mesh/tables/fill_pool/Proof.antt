@@ -5,7 +5,7 @@ use Prim.Native.Nat.{ℕ, _+_, _-_, _*_}
 use native.Mathlib.Omega.{arith}
 use lib.ListN.{length, length-set}
 use lib.Seq.{sets}
-use Rattle.payload.specs.MeshRead.{readWords}
+use Rattle.payload.specs.Internal.{readWords}
 use Rattle.payload.proofs.TableLaws.{words-none, word-stored}
 use Rattle.payload.proofs.mesh.tables.fill_pool.Statement.{statement}
 use Rattle.payload.proofs.mesh.tables.fill_pool.Tie as tie

@@ -4,8 +4,7 @@ use mathlib.Core.List.{List}
 use native.Mathlib.Omega.{arith}
 use lib.ListN.{length}
 use Rattle.payload.specs.Mesh.{Submesh}
-use Rattle.payload.specs.Internal.{meshRead}
-use Rattle.payload.specs.MeshRead.{readWords}
+use Rattle.payload.specs.Internal.{meshRead, readWords}
 use Rattle.payload.specs.Tables.{submeshRows, allPoints}
 use Rattle.payload.proofs.HeadLaws.{HeadKnown, head-known}
 use Rattle.payload.proofs.TableLaws.{stored-same, pool-known, rows-length}
