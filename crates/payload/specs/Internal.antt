@@ -229,7 +229,7 @@ ExpandedFrom at s numbers base n words expanded = at < expanded → Expanded s n
 -- how many of those that are left are drawn at once
 pub record SomeOf (left r : ℕ) : Type 0 where
   pub some : 1 ≤ left → 1 ≤ r
-  pub few : r ≤ 32
+  pub few : r ≤ 64
   pub most : r ≤ left
 
 -- the next points of a run: they lie inside the body
@@ -239,7 +239,7 @@ pub record SomeRun (s : List ℕ) (run : Run) : Type 0 where
   pub some : 1 ≤ run .limit
   pub most : run .limit ≤ 32000
   pub points : 1 ≤ run .count
-  pub few : run .count ≤ 32
+  pub few : run .count ≤ 64
   pub whole : run .bit + run .count * widthOf (run .limit) ≤ 8 * length s
 
 abbrev pub someNumbers : List ℕ → Run → ℕ → List ℕ

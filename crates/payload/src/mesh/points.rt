@@ -132,10 +132,10 @@ fn put_points(
 fn some_of(left: usize) -> usize
     ensures { λ r. ⌜ SomeOf left r ⌝ }
 {
-    if left < 32 {
+    if left < 64 {
         return left;
     }
-    32
+    64
 }
 
 // Stores the words of the next points of a run, and returns the last one's vertex. Their numbers are worked out first,
@@ -163,7 +163,7 @@ fn draw_some(
 {
     let n = run.count as usize;
     let width = bits::bit_width(run.limit as u32);
-    let mut points = [0u16; 32];
+    let mut points = [0u16; 64];
     bits::fill_run(s, run.bit, width, from.0, &mut points[..n]);
     put_points(
         s,

@@ -1,4 +1,5 @@
 -- `draw_some` meets its contract: the numbers are worked out, and their words stored. Assumes nothing.
+use Rattle.bits.specs.Run.{zeros}
 use borrow.Author.Needs.{needs}
 use Prim.Native.Nat.{ℕ, _-_}
 use mathlib.Core.Path.{_≡_, sym, ap, _∙_}
@@ -28,9 +29,7 @@ array-borrow-prefix-points c = search needs
 
 -- the buffer as it begins
 abbrev blank : List ℕ
-blank =
-    0 ∷ 0 ∷ 0 ∷ 0 ∷ 0 ∷ 0 ∷ 0 ∷ 0 ∷ 0 ∷ 0 ∷ 0 ∷ 0 ∷ 0 ∷ 0 ∷ 0 ∷ 0
-    ∷ 0 ∷ 0 ∷ 0 ∷ 0 ∷ 0 ∷ 0 ∷ 0 ∷ 0 ∷ 0 ∷ 0 ∷ 0 ∷ 0 ∷ 0 ∷ 0 ∷ 0 ∷ 0 ∷ []
+blank = zeros 64
 
 -- the numbers that were worked out are those of the run
 abbrev numbers : tie.After-fill-run → List ℕ
