@@ -33,6 +33,7 @@ use Rattle.bits.specs.Refusals.{among, Refuses, gives, refuses, RefusesOr12}
 use Rattle.bits.proofs.RefusalLaws.{then-refuses, mapped-refuses, cond-refuses, within-refuses, limited-refuses, complete-refuses, run-refuses, header-refuses}
 use Rattle.payload.specs.Refusals.{Refusals}
 use Rattle.payload.proofs.LentLaws.{answer-refuses}
+use Rattle.payload.proofs.CropProofs.{full-usable}
 use Rattle.payload.specs.declared.crop.Bounds.{Bounds}
 
 -- ---- the ways in which verdicts are put together
@@ -152,6 +153,11 @@ unfolding sphereNumbers
 numbers-refuses rings sectors b =
     cond-refuses (gridUsable rings sectors) (cond-refuses (usable b) (gives _) (refuses 10 refl)) (refuses 9 refl)
 
+full-refuses : (rings sectors : ℕ) → Refuses (9 ∷ []) (sphereNumbers rings sectors full)
+unfolding sphereNumbers
+full-refuses rings sectors =
+    rw full-usable (cond-refuses (gridUsable rings sectors) (gives _) (refuses 9 refl))
+
 module _ {ks : List ℕ} (nine : among 9 ks ≡ true) where
   uvs-refuses : (rings sectors : ℕ) → Refuses ks (sphereUvs rings sectors)
   unfolding sphereUvs
@@ -189,7 +195,7 @@ refusals =
           answer-refuses buffers
           (mapped-refuses recordedMeshes (limited-refuses s refl (meshes-refuses refl refl refl refl s)));
       sphere-indices-bounded = λ rings sectors b buffers. items-refuses 1 buffers (numbers-refuses rings sectors b);
-      sphere-indices = λ rings sectors buffers. items-refuses 1 buffers (numbers-refuses rings sectors full);
+      sphere-indices = λ rings sectors buffers. items-refuses 1 buffers (full-refuses rings sectors);
       sphere-uvs = λ rings sectors buffers. items-refuses 2 buffers (uvs-refuses refl rings sectors);
       sphere-lengths = λ rings sectors b.
           then-refuses (numbers-refuses rings sectors b) (λ l. mapped-refuses _ (uvs-refuses refl rings sectors));

@@ -6,13 +6,13 @@ use mathlib.Core.Bool.{true, false, cond, _&&_}
 use mathlib.Core.List.{List, _++_}
 use lib.ListN.{length}
 use lib.Seq.{sets}
-use lib.Ieee.{Float, ofBits, add, eq, le, lt}
+use lib.Ieee.{Float, ofBits, eq, le, lt}
 use lib.Ieee.Scale.{finite}
 use borrow.Author.Tests.{le-leb}
 use Rattle.bits.specs.Verdict.{Verdict, accepted, needs, declined, andThen, mapped}
 use Rattle.bits.specs.Verdict.{limited}
 use Rattle.payload.specs.Float.{f0, f1}
-use Rattle.payload.specs.Crop.{sideUsable, usable, full}
+use Rattle.payload.specs.Crop.{usable, full}
 use Rattle.payload.specs.Equi.{cropOf, equiFields, equiUsable}
 use Rattle.payload.specs.Sphere.{gridUsable, gridTriangles, gridUvs, sphereNumbers, sphereUvs}
 use Rattle.payload.specs.Cube.{cellsUsable, shareUsable, cubeTriangles, cubePoints, cubeNumbers, cubeFloats}
@@ -192,8 +192,7 @@ unfolding cellsUsable
 cells-in-limits cells a b = simp (le-leb 1 cells a, le-leb cells 103 b)
 
 pub full-usable : usable full ≡ true
-unfolding usable sideUsable ofBits add eq lt le
-full-usable = refl
+full-usable = crop.full-usable
 
 pub one-unusable : shareUsable f1 ≡ false
 unfolding shareUsable ofBits le lt

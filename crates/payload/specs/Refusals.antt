@@ -38,7 +38,7 @@ pub record Refusals : Type 0 where
   pub sphere-indices-bounded : (rings sectors : ℕ) (b : Bounds) (buffers : List (List ℕ))
       → RefusesOr12 (9 ∷ 10 ∷ []) (answerFor (inItems 1 (sphereNumbers rings sectors b)) buffers)
   pub sphere-indices : (rings sectors : ℕ) (buffers : List (List ℕ))
-      → RefusesOr12 (9 ∷ 10 ∷ []) (answerFor (inItems 1 (sphereNumbers rings sectors full)) buffers)
+      → RefusesOr12 (9 ∷ []) (answerFor (inItems 1 (sphereNumbers rings sectors full)) buffers)
   pub sphere-uvs : (rings sectors : ℕ) (buffers : List (List ℕ))
       → RefusesOr12 (9 ∷ []) (answerFor (inItems 2 (sphereUvs rings sectors)) buffers)
   pub sphere-lengths : (rings sectors : ℕ) (b : Bounds)

@@ -46,6 +46,10 @@ const EMPTY: Fault = (refusals::SHORT, |draft, _| draft.bytes.clear());
 const OTHER_VERSION: Fault = (refusals::VERSION, |draft, random| {
     put(draft, 0, 1 + random.below(255) as u8);
 });
+/// Within the version and the flags.
+const CUT_HEADER: Fault = (refusals::SHORT, |draft, random| {
+    cut(draft, 1 + random.below(3))
+});
 const SHORT_BUFFERS: Fault = (refusals::NEEDS, |draft, _| draft.short_buffers = true);
 
 /// In the order of document 01, so that the first one made decides.
@@ -54,9 +58,7 @@ pub const CROP_FAULTS: [Fault; 9] = [
     LONGER,
     EMPTY,
     OTHER_VERSION,
-    (refusals::SHORT, |draft, random| {
-        cut(draft, 1 + random.below(3))
-    }),
+    CUT_HEADER,
     (refusals::SHORT, |draft, random| {
         cut(draft, 4 + random.below(16))
     }),
@@ -72,9 +74,7 @@ pub const CUBE_FAULTS: [Fault; 14] = [
     LONGER,
     EMPTY,
     OTHER_VERSION,
-    (refusals::SHORT, |draft, random| {
-        cut(draft, 1 + random.below(3))
-    }),
+    CUT_HEADER,
     (refusals::SHORT, |draft, random| {
         cut(draft, 4 + random.below(4))
     }),
