@@ -1,5 +1,7 @@
 -- Laws of what was put into a buffer: it is read back, what stands before and after it stays, and the free bits are 0. Assumes nothing.
-use mathlib.Core.Path.{_≡_, sym, ap, ap₂, _∙_, subst}
+use mathlib.Core.Path.{_≡_, refl, sym, ap, ap₂, _∙_, subst}
+use mathlib.Core.Bool.{Bool, true, false, cond, _&&_}
+use lib.Dec.{leb}
 use Prim.Native.Nat.{ℕ, _+_, _-_, _*_, _/_, _%_, _^_, _≤_, _<_}
 use mathlib.Core.List.{List, _++_}
 use native.Mathlib.Omega.{arith}
@@ -156,10 +158,18 @@ module _ (s : List ℕ) (p w v : ℕ) (fits : p + w ≤ 8 * length s) where
         ∙ ap (λ (x : ℕ). field s x u) (omega arith)
 
 module _ (s : List ℕ) (p w x : ℕ) where
-  pub field-put-yes : p + w ≤ 8 * length s → fieldPut s p w x ≡ bitsPut s p w (x % 2 ^ w)
+  pub field-put-yes : w ≤ 32 → p + w ≤ 8 * length s → fieldPut s p w x ≡ bitsPut s p w (x % 2 ^ w)
   unfolding fieldPut
-  field-put-yes h = simp (le-leb (p + w) (8 * length s) h)
+  field-put-yes n h = simp (le-leb w 32 n, le-leb (p + w) (8 * length s) h)
 
   pub field-put-no : 8 * length s < p + w → fieldPut s p w x ≡ s
   unfolding fieldPut
-  field-put-no h = simp (lt-leb (p + w) (8 * length s) h)
+  field-put-no h = go (leb w 32)
+    where
+      go : (b : Bool) → cond (b && leb (p + w) (8 * length s)) (bitsPut s p w (x % 2 ^ w)) s ≡ s
+      go true = simp (lt-leb (p + w) (8 * length s) h)
+      go false = refl
+
+  pub field-put-wide : 32 < w → fieldPut s p w x ≡ s
+  unfolding fieldPut
+  field-put-wide h = simp (lt-leb w 32 h)

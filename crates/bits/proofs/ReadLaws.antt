@@ -1,5 +1,5 @@
 -- Laws of reads, for an arbitrary width: the bits held by five bytes, and one field and two as bits read one after the other. Assumes nothing.
-use mathlib.Core.Path.{_≡_, refl, sym, ap, ap₂, _∙_}
+use mathlib.Core.Path.{_≡_, sym, ap, ap₂, _∙_}
 use mathlib.Core.Logic.{_⊎_, inl, inr}
 use Prim.Native.Nat.{ℕ, zero, suc, _+_, _-_, _*_, _/_, _%_, _^_, _≤_, _<_, min}
 use mathlib.Core.List.{List}
@@ -7,10 +7,10 @@ use native.Mathlib.Omega.{arith}
 use native.Mathlib.Nat.{div-one}
 use lib.ListN.{length, getD}
 use lib.Pow.{high}
-use Rattle.bits.specs.Verdict.{Verdict, accepted, declined, within, andThen, mapped}
+use Rattle.bits.specs.Verdict.{Verdict, accepted, declined, within, widthLimited, andThen, mapped}
 use Rattle.bits.specs.Field.{bitAt, field, room, heldBits}
 use Rattle.bits.specs.Read.{fieldAt, twoAt, bitOn, bitByBit}
-use Rattle.bits.proofs.VerdictLaws.{le-or-lt, within-yes, within-no, within-value, within-refused, then-yes, then-no}
+use Rattle.bits.proofs.VerdictLaws.{le-or-lt, clash, within-yes, within-no, within-value, width-yes, width-no, width-value, then-yes, then-no}
 use Rattle.bits.proofs.FieldLaws.{field-lt, field-split, field-window, field-five}
 
 -- ---- the bits that five bytes hold before bit q
@@ -70,22 +70,36 @@ taken-last s p w q x v h e f g = taken s p w 0 q x v (omega arith) (omega arith)
 -- ---- what a read says
 
 module _ (s : List ℕ) (p w : ℕ) where
-  pub one-whole : w ≤ room s - p → fieldAt s p w ≡ accepted (field s p w, p + w)
-  one-whole h = within-yes w (room s - p) (field s p w, p + w) (declined 3) h
+  -- what is said where the width is at most 32
+  abbrev one-said : Verdict (ℕ × ℕ)
+  one-said = within w (room s - p) (field s p w, p + w) (declined 3)
 
-  pub one-short : room s - p < w → fieldAt s p w ≡ declined 3
-  one-short h = within-no w (room s - p) (field s p w, p + w) (declined 3) h
+  abbrev two-said : Verdict (ℕ × ℕ × ℕ)
+  two-said = within (2 * w) (room s - p) (field s p w, field s (p + w) w, p + 2 * w) (declined 3)
 
-  pub two-whole : 2 * w ≤ room s - p → twoAt s p w ≡ accepted (field s p w, field s (p + w) w, p + 2 * w)
-  two-whole h = within-yes (2 * w) (room s - p) (field s p w, field s (p + w) w, p + 2 * w) (declined 3) h
+  pub one-wide : 32 < w → fieldAt s p w ≡ declined 16
+  one-wide h = width-no w one-said h
 
-  pub two-short : room s - p < 2 * w → twoAt s p w ≡ declined 3
-  two-short h = within-no (2 * w) (room s - p) (field s p w, field s (p + w) w, p + 2 * w) (declined 3) h
+  pub two-wide : 32 < w → twoAt s p w ≡ declined 16
+  two-wide h = width-no w two-said h
+
+  module _ (n : w ≤ 32) where
+    pub one-whole : w ≤ room s - p → fieldAt s p w ≡ accepted (field s p w, p + w)
+    one-whole h = width-yes w one-said n ∙ within-yes w (room s - p) (field s p w, p + w) (declined 3) h
+
+    pub one-short : room s - p < w → fieldAt s p w ≡ declined 3
+    one-short h = width-yes w one-said n ∙ within-no w (room s - p) (field s p w, p + w) (declined 3) h
+
+    pub two-whole : 2 * w ≤ room s - p → twoAt s p w ≡ accepted (field s p w, field s (p + w) w, p + 2 * w)
+    two-whole h = width-yes w two-said n ∙ within-yes (2 * w) (room s - p) (field s p w, field s (p + w) w, p + 2 * w) (declined 3) h
+
+    pub two-short : room s - p < 2 * w → twoAt s p w ≡ declined 3
+    two-short h = width-yes w two-said n ∙ within-no (2 * w) (room s - p) (field s p w, field s (p + w) w, p + 2 * w) (declined 3) h
 
 -- the answer of two fields that were taken
-pub two-taken : (s : List ℕ) (p w u v q : ℕ) → 2 * w ≤ room s - p → u ≡ field s p w → v ≡ field s (p + w) w → q ≡ p + 2 * w
+pub two-taken : (s : List ℕ) (p w u v q : ℕ) → w ≤ 32 → 2 * w ≤ room s - p → u ≡ field s p w → v ≡ field s (p + w) w → q ≡ p + 2 * w
     → accepted (u, v, q) ≡ twoAt s p w
-two-taken s p w u v q h e f g = (λ i. accepted (e i, f i, g i)) ∙ sym (two-whole s p w h)
+two-taken s p w u v q n h e f g = (λ i. accepted (e i, f i, g i)) ∙ sym (two-whole s p w n h)
 
 -- ---- bit by bit
 
@@ -118,10 +132,10 @@ module _ (s : List ℕ) (p : ℕ) where
   bits-no (suc w) h = stop w h (bits-no w) (le-or-lt w (room s - p))
 
 module _ (s : List ℕ) (p w : ℕ) where
-  pub one-by-bits : fieldAt s p w ≡ bitByBit s p w
-  one-by-bits = go (le-or-lt w (room s - p))
+  pub one-by-bits : fieldAt s p w ≡ widthLimited w (bitByBit s p w)
+  one-by-bits = ap (λ (v : Verdict (ℕ × ℕ)). widthLimited w v) (go (le-or-lt w (room s - p)))
     where
-      go : (w ≤ room s - p) ⊎ (room s - p < w) → within w (room s - p) (field s p w, p + w) (declined 3) ≡ bitByBit s p w
+      go : (w ≤ room s - p) ⊎ (room s - p < w) → one-said s p w ≡ bitByBit s p w
       go (inl h) = within-yes w (room s - p) (field s p w, p + w) (declined 3) h ∙ sym (bits-yes s p w h)
       go (inr h) = within-no w (room s - p) (field s p w, p + w) (declined 3) h ∙ sym (bits-no s p w h)
 
@@ -147,10 +161,10 @@ module _ (s : List ℕ) (p w : ℕ) where
   both-no l (inl h) = first-yes h ∙ second-no h l
   both-no l (inr h) = then-no (bitByBit s p w) second 3 (bits-no s p w h)
 
-  pub two-by-bits : twoAt s p w ≡ andThen (bitByBit s p w) (λ u. mapped (λ v. (u .0, v .0, v .1)) (bitByBit s (u .1) w))
-  two-by-bits = go (le-or-lt (2 * w) (room s - p))
+  pub two-by-bits : twoAt s p w ≡ widthLimited w (andThen (bitByBit s p w) (λ u. mapped (λ v. (u .0, v .0, v .1)) (bitByBit s (u .1) w)))
+  two-by-bits = ap (λ (v : Verdict (ℕ × ℕ × ℕ)). widthLimited w v) (go (le-or-lt (2 * w) (room s - p)))
     where
-      go : (2 * w ≤ room s - p) ⊎ (room s - p < 2 * w) → within (2 * w) (room s - p) (field s p w, field s (p + w) w, p + 2 * w) (declined 3) ≡ andThen (bitByBit s p w) second
+      go : (2 * w ≤ room s - p) ⊎ (room s - p < 2 * w) → two-said s p w ≡ andThen (bitByBit s p w) second
       go (inl h) = within-yes (2 * w) (room s - p) (field s p w, field s (p + w) w, p + 2 * w) (declined 3) h ∙ sym (first-yes (omega arith) ∙ second-yes h)
       go (inr h) = within-no (2 * w) (room s - p) (field s p w, field s (p + w) w, p + 2 * w) (declined 3) h ∙ sym (both-no h (le-or-lt w (room s - p)))
 
@@ -158,10 +172,11 @@ module _ (s : List ℕ) (p w : ℕ) where
 
 -- what the read of it gave
 pub known-value : (s : List ℕ) (p w v q : ℕ) → accepted (v, q) ≡ fieldAt s p w → v ≡ field s p w
-known-value s p w v q e = ap (λ (x : ℕ × ℕ). x .0) (sym (within-value w (room s - p) (field s p w, p + w) 3 (v, q) (sym e) .1))
+known-value s p w v q e =
+    ap (λ (x : ℕ × ℕ). x .0) (sym (within-value w (room s - p) (field s p w, p + w) 3 (v, q) (width-value w (one-said s p w) (v, q) (sym e)) .1))
 
 -- it cannot have been refused
-pub known-whole : (s : List ℕ) (p w : ℕ) → length s ≤ 67108864 → p + w ≤ 8 * length s → declined 3 ≡ fieldAt s p w → ⊥
-known-whole s p w l h e =
-    let r = within-refused w (room s - p) (field s p w, p + w) 3 3 (sym e) .0 in
-    omega arith
+pub known-whole : (s : List ℕ) (p w : ℕ) → length s ≤ 67108864 → w ≤ 32 → p + w ≤ 8 * length s → (k : ℕ) → declined k ≡ fieldAt s p w → ⊥
+known-whole s p w l n h k e =
+    let yes = one-whole s p w n (omega arith) in
+    clash (cc)

@@ -1,16 +1,17 @@
 -- Which refusals a verdict can be: a law for each way in which verdicts are put together, and for what the calls read. Assumes nothing.
 use Prim.Native.Nat.{ℕ, zero, suc, _+_, _-_, _*_, _/_, _%_}
-use mathlib.Core.Path.{_≡_}
+use mathlib.Core.Path.{_≡_, sym}
 use mathlib.Core.Bool.{Bool, true, false, cond}
 use mathlib.Core.List.{List, [], _∷_}
 use lib.Dec.{leb, eqb}
 use lib.ListN.{length, getD}
-use Rattle.bits.specs.Verdict.{Verdict, accepted, needs, declined, within, limited, andThen, mapped}
+use Rattle.bits.specs.Verdict.{Verdict, accepted, needs, declined, within, limited, widthLimited, andThen, mapped}
 use Rattle.bits.specs.Field.{field}
+use Rattle.bits.proofs.VerdictLaws.{clash}
 use Rattle.bits.specs.Number.{ranOn}
 use Rattle.bits.specs.Header.{listEnd, box, sizedAt, headerAt}
 use Rattle.bits.specs.Run.{complete, shift, readRun}
-use Rattle.bits.specs.Refusals.{among, Refuses, gives, refuses, RefusesOr12, listed, asks}
+use Rattle.bits.specs.Refusals.{among, Refuses, gives, refuses, RefusesOr12, listed, asks, NeverDeclines}
 
 module _ {ks : List ℕ} where
   -- ---- the ways in which verdicts are put together
@@ -21,6 +22,11 @@ module _ {ks : List ℕ} where
 
   pub mapped-refuses : {A B : Type 0} {v : Verdict A} (f : A → B) → Refuses ks v → Refuses ks (mapped f v)
   mapped-refuses f r = then-refuses r (λ x. gives (f x))
+
+  -- what is made of a value does not matter
+  pub remade : {A B C : Type 0} (f : A → B) (g : A → C) (v : Verdict A) → Refuses ks (mapped f v) → Refuses ks (mapped g v)
+  remade f g (accepted a) r = gives (g a)
+  remade f g (declined j) (refuses k h) = refuses k h
 
   pub cond-refuses : {A : Type 0} {u v : Verdict A} (b : Bool) → Refuses ks u → Refuses ks v → Refuses ks (cond b u v)
   cond-refuses true r q = r
@@ -33,6 +39,18 @@ module _ {ks : List ℕ} where
   pub limited-refuses : {A : Type 0} {v : Verdict A} (s : List ℕ) → among 2 ks ≡ true → Refuses ks v → Refuses ks (limited s v)
   unfolding limited
   limited-refuses s e r = cond-refuses (leb (length s) 67108864) r (refuses 2 e)
+
+  pub width-refuses : {A : Type 0} {v : Verdict A} (w : ℕ) → among 16 ks ≡ true → Refuses ks v → Refuses ks (widthLimited w v)
+  unfolding widthLimited
+  width-refuses w e r = cond-refuses (leb w 32) r (refuses 16 e)
+
+  pub width-asks : {A : Type 0} {v : Verdict A} (w : ℕ) → among 16 ks ≡ true → RefusesOr12 ks v → RefusesOr12 ks (widthLimited w v)
+  unfolding widthLimited
+  width-asks {A} {v} w e r = go (leb w 32)
+    where
+      go : (b : Bool) → RefusesOr12 ks (cond b v (declined 16))
+      go true = r
+      go false = listed (refuses 16 e)
 
   -- room, or the length that is needed
   pub within-asks : {A : Type 0} (m n : ℕ) (a : A) (l : List ℕ) → RefusesOr12 ks (within m n a (needs l))
@@ -73,3 +91,16 @@ module _ {ks : List ℕ} where
       (within-refuses (p + size) (length s) (box (field s (8 * (p + 4)) 32) (p + 8) (p + size)) 6 six)
       (refuses 6 six))
       (gives listEnd)
+
+  -- ---- what is not listed is no answer
+
+  pub unlisted : {A : Type 0} {v : Verdict A} (k : ℕ) → among k ks ≡ false → Refuses ks v → NeverDeclines k A ks v
+  unlisted k out (gives a) e = clash (cc)
+  unlisted k out (refuses j h) e =
+      let same : j ≡ k = cc in
+      let both : among k ks ≡ true = rw (sym same) h in
+      clash (cc)
+
+  pub unlisted-12 : {A : Type 0} {v : Verdict A} (k : ℕ) → among k ks ≡ false → RefusesOr12 ks v → NeverDeclines k A ks v
+  unlisted-12 k out (listed r) e = unlisted k out r e
+  unlisted-12 k out (asks l) e = clash (cc)

@@ -8,7 +8,7 @@ use native.Mathlib.Omega.{arith}
 use lib.Dec.{leb}
 use lib.ListN.{length}
 use borrow.Author.Tests.{le-leb, lt-leb, leb-true, leb-false}
-use Rattle.bits.specs.Verdict.{Verdict, accepted, needs, declined, within, limited, andThen, mapped}
+use Rattle.bits.specs.Verdict.{Verdict, accepted, needs, declined, within, limited, widthLimited, andThen, mapped}
 
 pub le-or-lt : (m n : ℕ) → (m ≤ n) ⊎ (n < m)
 le-or-lt m n = go (leb m n) refl
@@ -82,6 +82,22 @@ module _ {A : Type 0} (s : List ℕ) (v : Verdict A) where
   pub limited-no : 67108864 < length s → limited s v ≡ declined 2
   unfolding limited
   limited-no h = simp (lt-leb (length s) 67108864 h)
+
+-- ---- a field's width within its limit
+
+module _ {A : Type 0} (w : ℕ) (v : Verdict A) where
+  pub width-yes : w ≤ 32 → widthLimited w v ≡ v
+  unfolding widthLimited
+  width-yes h = simp (le-leb w 32 h)
+
+  pub width-no : 32 < w → widthLimited w v ≡ declined 16
+  unfolding widthLimited
+  width-no h = simp (lt-leb w 32 h)
+
+  -- a value was accepted, so behind the test too
+  pub width-value : (a : A) → widthLimited w v ≡ accepted a → v ≡ accepted a
+  unfolding widthLimited
+  width-value a e = tested-value (leb w 32) v 16 a e .1
 
 -- ---- one step after another
 

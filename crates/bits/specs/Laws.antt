@@ -6,12 +6,12 @@ use mathlib.Core.List.{List, [], _∷_, _++_, map}
 use mathlib.Core.Logic.{_↔_}
 use lib.ListN.{length, getD}
 use lib.IntN.{pos, negsuc, _+ℤ_}
-use Rattle.bits.specs.Verdict.{accepted, andThen, mapped}
+use Rattle.bits.specs.Verdict.{accepted, declined, widthLimited, andThen, mapped}
 use Rattle.bits.specs.Field.{field, heldBits}
 use Rattle.bits.specs.Read.{fieldAt, twoAt, bitByBit}
 use Rattle.bits.specs.Number.{meaning, Moves, ranOn, steppedTo, widthOf}
 use Rattle.bits.specs.Run.{RunSpells, readRun, summed}
-use Rattle.bits.specs.Put.{free, fieldPut, wordPut}
+use Rattle.bits.specs.Put.{free, fieldPut, fieldPutAnswer, wordPut}
 
 -- every element is a byte
 abbrev pub Bytes : List ℕ → Type 0
@@ -37,13 +37,21 @@ pub record FieldLaws : Type 0 where
 
 -- Reads, for an arbitrary width, place and slice: at the start of the data, inside it, at its end and past it.
 pub record ReadLaws : Type 0 where
-  -- one field, and two, give what w bits read one after the other give, and go on where those do
-  pub one : (s : List ℕ) (p w : ℕ) → fieldAt s p w ≡ bitByBit s p w
+  -- one field, and two, give what w bits read one after the other give, and go on where those do; 16 above 32 bits
+  pub one : (s : List ℕ) (p w : ℕ) → fieldAt s p w ≡ widthLimited w (bitByBit s p w)
   pub two : (s : List ℕ) (p w : ℕ)
-      → twoAt s p w ≡ andThen (bitByBit s p w) (λ u. mapped (λ v. (u .0, v .0, v .1)) (bitByBit s (u .1) w))
+      → twoAt s p w
+      ≡ widthLimited w (andThen (bitByBit s p w) (λ u. mapped (λ v. (u .0, v .0, v .1)) (bitByBit s (u .1) w)))
   -- a field that ends r bits before bit q, taken out of the bits that five bytes hold before it
   pub held : (s : List ℕ) (p w r : ℕ) → w + r ≤ heldBits (p + w + r)
       → field s (p + w + r - heldBits (p + w + r)) (heldBits (p + w + r)) / 2 ^ r % 2 ^ w ≡ field s p w
+
+-- The width of a field is tested first: the answer is 16 exactly where it is above 32, whatever the data hold, few or
+-- none, and wherever the place is.
+pub record FieldWidthLaws : Type 0 where
+  pub read : (s : List ℕ) (p w : ℕ) → (fieldAt s p w ≡ declined 16) ↔ (32 < w)
+  pub read-two : (s : List ℕ) (p w : ℕ) → (twoAt s p w ≡ declined 16) ↔ (32 < w)
+  pub put-field : (s : List ℕ) (p w : ℕ) → (fieldPutAnswer s p w ≡ declined 16) ↔ (32 < w)
 
 -- a running number: the step, `Moves` and what the field means say the same
 pub record RunningLaws : Type 0 where
@@ -68,16 +76,20 @@ pub record WidthLaws : Type 0 where
   pub enough : (c : ℕ) → 2 * c ≤ 2 ^ widthOf c
   pub least : (c v : ℕ) → 2 * c ≤ 2 ^ v → widthOf c ≤ v
 
--- a field that fits, put into a buffer
+-- a field of at most 32 bits that fits, put into a buffer
 pub record FieldPutLaws : Type 0 where
-  pub read-back : (s : List ℕ) (p w x : ℕ) → p + w ≤ 8 * length s → field (fieldPut s p w x) p w ≡ x % 2 ^ w
-  pub before : (s : List ℕ) (p w x q u : ℕ) → p + w ≤ 8 * length s → q + u ≤ p
+  pub read-back : (s : List ℕ) (p w x : ℕ) → w ≤ 32 → p + w ≤ 8 * length s
+      → field (fieldPut s p w x) p w ≡ x % 2 ^ w
+  pub before : (s : List ℕ) (p w x q u : ℕ) → w ≤ 32 → p + w ≤ 8 * length s → q + u ≤ p
       → field (fieldPut s p w x) q u ≡ field s q u
-  pub free-bits : (s : List ℕ) (p w x : ℕ) → p + w ≤ 8 * length s → field (fieldPut s p w x) (p + w) (free p w) ≡ 0
-  pub after : (s : List ℕ) (p w x k : ℕ) → p + w ≤ 8 * length s → (p + w + 7) / 8 ≤ k
+  pub free-bits : (s : List ℕ) (p w x : ℕ) → w ≤ 32 → p + w ≤ 8 * length s
+      → field (fieldPut s p w x) (p + w) (free p w) ≡ 0
+  pub after : (s : List ℕ) (p w x k : ℕ) → w ≤ 32 → p + w ≤ 8 * length s → (p + w + 7) / 8 ≤ k
       → getD (fieldPut s p w x) k 0 ≡ getD s k 0
   pub same-length : (s : List ℕ) (p w x : ℕ) → length (fieldPut s p w x) ≡ length s
-  -- and a word
+  -- and what is refused, by 16 or by 12, changes nothing
+  pub untouched : (s : List ℕ) (p w x : ℕ) → (fieldPutAnswer s p w ≡ accepted tt → ⊥) → fieldPut s p w x ≡ s
+  -- a word
   pub word-back : (s : List ℕ) (p x : ℕ) → p + 4 ≤ length s → x < 2 ^ 32 → field (wordPut s p x) (8 * p) 32 ≡ x
 
 -- m2 and m3 of document 01, with the ends of the range

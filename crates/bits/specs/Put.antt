@@ -2,11 +2,11 @@
 -- list l stored from place i on.
 use Prim.Native.Nat.{ℕ, zero, suc, _+_, _-_, _*_, _/_, _%_, _^_}
 use mathlib.Core.List.{List, [], _∷_, _++_}
-use mathlib.Core.Bool.{cond}
+use mathlib.Core.Bool.{cond, _&&_}
 use lib.ListN.{length}
 use lib.Seq.{sets}
 use lib.Dec.{leb}
-use Rattle.bits.specs.Verdict.{Verdict, accepted, needs, within}
+use Rattle.bits.specs.Verdict.{Verdict, accepted, needs, declined, within, widthLimited}
 use Rattle.bits.specs.Field.{field, capped}
 use Rattle.bits.specs.declared.put.Put.{Put}
 use Rattle.bits.specs.declared.put.Put.the-variants as P
@@ -19,6 +19,7 @@ bytesOf (suc n) x = bytesOf n (x / 256) ++ (x % 256 ∷ [])
 abbrev pub putSays : Put → Verdict (Unit {0})
 putSays P.Done = accepted tt
 putSays (P.Needs n) = needs (n ∷ [])
+putSays P.TooWide = declined 16
 
 -- ---- a word at byte p
 
@@ -44,9 +45,10 @@ joined s p w v = (field s (8 * (p / 8)) (p % 8) * 2 ^ w + v) * 2 ^ free p w
 unfoldable pub bitsPut : List ℕ → ℕ → ℕ → ℕ → List ℕ
 bitsPut s p w v = sets s (p / 8) (bytesOf (touched p w) (joined s p w v))
 
+-- 16, then 12
 abbrev pub fieldPutAnswer : List ℕ → ℕ → ℕ → Verdict (Unit {0})
-fieldPutAnswer s p w = within (p + w) (8 * length s) tt (needs ((p + w + 7) / 8 ∷ []))
+fieldPutAnswer s p w = widthLimited w (within (p + w) (8 * length s) tt (needs ((p + w + 7) / 8 ∷ [])))
 
--- the w low bits of x
+-- the w low bits of x, where w is at most 32 and they fit
 unfoldable pub fieldPut : List ℕ → ℕ → ℕ → ℕ → List ℕ
-fieldPut s p w x = cond (leb (p + w) (8 * length s)) (bitsPut s p w (x % 2 ^ w)) s
+fieldPut s p w x = cond (leb w 32 && leb (p + w) (8 * length s)) (bitsPut s p w (x % 2 ^ w)) s

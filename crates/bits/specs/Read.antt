@@ -1,9 +1,9 @@
--- What reading at a place gives: the value and the place after it, or 3, too few bytes or bits. And what each answer
--- says.
+-- What reading at a place gives: the value and the place after it, or 3, too few bytes or bits; of a field, before
+-- that, 16, a width above 32. And what each answer says.
 use Prim.Native.Nat.{ℕ, zero, suc, _+_, _-_, _*_}
 use mathlib.Core.List.{List}
 use lib.ListN.{length}
-use Rattle.bits.specs.Verdict.{Verdict, accepted, declined, within, andThen}
+use Rattle.bits.specs.Verdict.{Verdict, accepted, declined, within, widthLimited, andThen}
 use Rattle.bits.specs.Field.{bitAt, field, room}
 use Rattle.bits.specs.declared.bytes.ByteRead.{ByteRead}
 use Rattle.bits.specs.declared.bytes.ByteRead.the-variants as B
@@ -20,13 +20,13 @@ use Rattle.bits.specs.declared.fields.TwoRead.the-variants as T
 abbrev pub numberAt : ℕ → List ℕ → ℕ → Verdict (ℕ × ℕ)
 numberAt n s p = within (p + n) (length s) (field s (8 * p) (8 * n), p + n) (declined 3)
 
--- the field of w bits from bit p on; a field of no bits is always complete
+-- the field of w bits from bit p on: 16, then 3; a field of no bits is always complete
 abbrev pub fieldAt : List ℕ → ℕ → ℕ → Verdict (ℕ × ℕ)
-fieldAt s p w = within w (room s - p) (field s p w, p + w) (declined 3)
+fieldAt s p w = widthLimited w (within w (room s - p) (field s p w, p + w) (declined 3))
 
--- two neighbouring fields of w bits from bit p on, and the place after both; 3 where they are not both complete
+-- two neighbouring fields of w bits from bit p on, and the place after both: 16, then 3 where not both are complete
 abbrev pub twoAt : List ℕ → ℕ → ℕ → Verdict (ℕ × ℕ × ℕ)
-twoAt s p w = within (2 * w) (room s - p) (field s p w, field s (p + w) w, p + 2 * w) (declined 3)
+twoAt s p w = widthLimited w (within (2 * w) (room s - p) (field s p w, field s (p + w) w, p + 2 * w) (declined 3))
 
 -- One bit more: a number read so far and the place after it. And w bits from bit p on, one after the other.
 unfoldable pub bitOn : List ℕ → ℕ × ℕ → Verdict (ℕ × ℕ)
@@ -51,10 +51,12 @@ wordSays W.Short = declined 3
 abbrev pub fieldSays : FieldRead → Verdict (ℕ × ℕ)
 fieldSays (F.Value v c) = accepted (v, c .bit)
 fieldSays F.Short = declined 3
+fieldSays F.TooWide = declined 16
 
 abbrev pub twoSays : TwoRead → Verdict (ℕ × ℕ × ℕ)
 twoSays (T.Values a b c) = accepted (a, b, c .bit)
 twoSays T.Short = declined 3
+twoSays T.TooWide = declined 16
 
 abbrev pub seekSays : Seek → Verdict ℕ
 seekSays (S.To c) = accepted (c .at)

@@ -20,16 +20,18 @@ pub struct BitCursor {
     pub bit: usize,
 }
 
-// A field and the place after it, or too few bits.
+// A field and the place after it, too few bits, or a width above 32.
 pub enum FieldRead {
     Value(u32, BitCursor),
     Short,
+    TooWide,
 }
 
-// Two neighbouring fields and the place after both, or too few bits for both.
+// Two neighbouring fields and the place after both, too few bits for both, or a width above 32.
 pub enum TwoRead {
     Values(u32, u32, BitCursor),
     Short,
+    TooWide,
 }
 
 // How many bits of s a cursor can name.
@@ -137,7 +139,9 @@ fn one_known(s: &[u8], bit: usize, width: u32) -> u32
     let here = BitCursor { bit };
     match here.read(s, width) {
         FieldRead::Value(value, _) => value,
+        // never: it is there, and no wider than 32 bits
         FieldRead::Short => 0,
+        FieldRead::TooWide => 0,
     }
 }
 
@@ -185,11 +189,13 @@ impl BitCursor {
         BitCursor { bit: usize::MAX }
     }
 
-    // A field of width bits. Callers see to it that the width is at most 32.
+    // A field of width bits. The width is tested before anything is read.
     pub fn read(self, s: &[u8], width: u32) -> FieldRead
-        requires { ⌜ width ≤ 32 ⌝ }
         ensures { λ r. ⌜ fieldSays r ≡ fieldAt (now (s .entry)) (self .bit) width ⌝ }
     {
+        if 32 < width {
+            return FieldRead::TooWide;
+        }
         let bit = self.bit;
         let size = width as usize;
         if width == 0 {
@@ -205,12 +211,13 @@ impl BitCursor {
         )
     }
 
-    // Two neighbouring fields of width bits each. Up to 16 bits they come out of one window. Callers see to it that the
-    // width is at most 32.
+    // Two neighbouring fields of width bits each. Up to 16 bits they come out of one window.
     pub fn read_two(self, s: &[u8], width: u32) -> TwoRead
-        requires { ⌜ width ≤ 32 ⌝ }
         ensures { λ r. ⌜ twoSays r ≡ twoAt (now (s .entry)) (self .bit) width ⌝ }
     {
+        if 32 < width {
+            return TwoRead::TooWide;
+        }
         let bit = self.bit;
         if width == 0 {
             return TwoRead::Values(0, 0, BitCursor { bit });

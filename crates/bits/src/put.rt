@@ -5,10 +5,11 @@ ghost use lib.ListN.{length};
 ghost use lib.Seq.{sets};
 ghost use Rattle.bits.specs.Put.{bytesOf, wordPut, wordPutAnswer, fieldPut, fieldPutAnswer, putSays};
 
-// It is put, or the buffer would need this length.
+// It is put, the buffer would need this length, or a field's width is above 32.
 pub enum Put {
     Done,
     Needs(usize),
+    TooWide,
 }
 
 // Puts a word at byte at, big end first.
@@ -52,12 +53,15 @@ fn joined_of(first: u8, off: usize, width: usize, value: u32) -> u64
     ((kept << width) + low) << ((off + width + 7) / 8 * 8 - off - width)
 }
 
-// Puts the width low bits of value at a bit. The bits before it stay, those after it in its last byte become 0.
+// Puts the width low bits of value at a bit, where the width is at most 32. The bits before it stay, those after it in
+// its last byte become 0.
 pub fn put_field(out: &mut [u8], bit: usize, width: u32, value: u32) -> Put
-    requires { ⌜ width ≤ 32 ⌝ }
     ensures { λ r. ⌜ putSays r ≡ fieldPutAnswer (now (out .entry)) bit width ⌝ }
     ensures { λ _. ⌜ now (out .exit) ≡ fieldPut (now (out .entry)) bit width value ⌝ }
 {
+    if 32 < width {
+        return Put::TooWide;
+    }
     let at = bit / 8;
     let off = bit % 8;
     let wide = width as usize;

@@ -1,20 +1,18 @@
 -- What an exported function answers, from what it called. Assumes nothing.
-use mathlib.Core.Path.{_≡_, refl, sym, _∙_, ap, subst}
+use mathlib.Core.Path.{_≡_, sym, _∙_, ap, subst}
 use mathlib.Core.List.{List}
-use Prim.Native.Nat.{ℕ, _^_, _<_, _≤_}
+use Prim.Native.Nat.{ℕ, _^_, _<_}
 use native.Mathlib.Omega.{arith}
-use lib.IntN.{ℤ, pos, negsuc}
+use lib.IntN.{ℤ, pos}
 use lib.Signed.{mag}
 use mir.Syntax.{w64}
 use mir.Val.{toZ, ofZ}
 use mir.Facts.{toZ-ofZ, toZ-pos}
 use borrow.Author.Needs.{sfits-of}
-use borrow.Author.Tests.{le-leb, lt-leb}
 use Rattle.bits.specs.Verdict.{Verdict, accepted, mapped}
-use Rattle.capi.specs.Answer.{codeOf, stored, wordsAfter, narrow, asked}
+use Rattle.capi.specs.Answer.{codeOf, stored, wordsAfter}
 use Rattle.capi.specs.Reply.{Says, usedWords}
 use Rattle.capi.specs.declared.Reply.{Reply}
-use Rattle.capi.proofs.Stores.{stored-none}
 
 -- a reply says what an equal verdict says
 pub said : {r : Reply} {v u : Verdict (List ℕ)} → Says r v → v ≡ u → Says r u
@@ -46,14 +44,6 @@ module _ {z : ℤ} {l : List ℕ} (d : List ℕ) {r : Reply} where
   pub handed-with : {A R : Type 0} (f : A → List ℕ) {w u : Verdict A} → mag z < 2 ^ 63 → Handed z d l r → Says r (mapped f w) → (w ≡ u) × R
       → (toZ w64 (ofZ w64 z) ≡ codeOf (mapped f u)) × ((l ≡ wordsAfter d (mapped f u)) × R)
   handed-with f small e s w = let h = handed-mapped f small e s (w .0) in (h .0, (h .1, w .1))
-
--- a call that was made for its width, and one that was not
-pub narrow-made : {A : Type 0} (width : ℕ) (made not-made : A) → width ≤ 32 → made ≡ narrow width made not-made
-narrow-made width made not-made h = simp (le-leb _ _ h)
-
-pub too-wide : {A : Type 0} (f : A → List ℕ) (d : List ℕ) (width : ℕ) (v : Verdict A) → 32 < width → Gives (negsuc 9223372036854775807) d d (mapped f (asked width v))
-unfolding codeOf wordsAfter
-too-wide f d width v h = rw (lt-leb _ _ h) (refl, stored-none d)
 
 -- a u32 as an i64
 pub widened : {n m : ℕ} → n < 2 ^ 32 → n ≡ m → toZ w64 n ≡ pos m

@@ -3,3 +3,4 @@ pub mod Stores
 pub mod Handed
 pub mod ShownLaws
 pub mod Totals
+pub mod RefusalProofs

@@ -1,7 +1,7 @@
 -- Words stored one after the other from place 0 on. Assumes nothing.
 use mathlib.Core.Path.{_≡_, refl, sym, ap, ap₂, _∙_}
 use mathlib.Core.List.{List, [], _∷_}
-use Prim.Native.Nat.{ℕ, zero-le, _+_, _≤_, _<_}
+use Prim.Native.Nat.{ℕ, _+_, _≤_, _<_}
 use native.Mathlib.Numerals.{add-one}
 use native.Mathlib.Omega.{arith}
 use lib.ListN.{length, getD, set, take}
@@ -9,10 +9,6 @@ use lib.Seq.{sets, sets-eq, length-sets, length-take-le, take-suc, take-all, tak
 use borrow.Author.Tests.{le-leb, lt-leb}
 use Rattle.payload.proofs.Theorems.{sets-append}
 use Rattle.capi.specs.Answer.{stored}
-
-pub stored-none : (d : List ℕ) → d ≡ stored d []
-unfolding stored
-stored-none d = sym (simp (le-leb 0 (length d) zero-le))
 
 module _ (d ws : List ℕ) where
   pub stored-not : length d < length ws → d ≡ stored d ws

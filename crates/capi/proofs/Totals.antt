@@ -6,7 +6,7 @@ use native.Mathlib.Omega.{arith}
 use Rattle.bits.specs.Verdict.{Verdict, accepted, needs, declined, mapped}
 use Rattle.bits.specs.Field.{field, room}
 use Rattle.bits.specs.Read.{fieldAt}
-use Rattle.bits.proofs.VerdictLaws.{within-value}
+use Rattle.bits.proofs.VerdictLaws.{within-value, width-value}
 use Rattle.capi.specs.Total.{plus, totalAt, wrapped}
 
 -- what a total of fields still to come makes of the sum so far
@@ -31,12 +31,12 @@ module _ (s : List ℕ) (w left p sum : ℕ) (some : 0 < left) where
   pub total-on : (v next : ℕ) → fieldAt s p w ≡ accepted (v, next) → mapped (joined sum) (totalAt s w left p) ≡ mapped (joined ((sum + v) % 2 ^ 64)) (totalAt s w (left - 1) next)
   unfolding totalAt
   total-on v next e =
-      let q : p + w ≡ next = ap (λ (x : ℕ × ℕ). x .1) (within-value w (room s - p) (field s p w, p + w) 3 (v, next) e .1) in
+      let q : p + w ≡ next = ap (λ (x : ℕ × ℕ). x .1) (within-value w (room s - p) (field s p w, p + w) 3 (v, next) (width-value w _ (v, next) e) .1) in
       ap (λ (n : ℕ). mapped (joined sum) (totalAt s w n p)) next-one ∙ rw (e, q) (joined-more sum v next (totalAt s w (left - 1) next))
 
-  pub total-short : fieldAt s p w ≡ declined 3 → mapped (joined sum) (totalAt s w left p) ≡ declined 3
+  pub total-refused : (k : ℕ) → fieldAt s p w ≡ declined k → mapped (joined sum) (totalAt s w left p) ≡ declined k
   unfolding totalAt plus
-  total-short e = ap (λ (n : ℕ). mapped (joined sum) (totalAt s w n p)) next-one ∙ rw e
+  total-refused k e = ap (λ (n : ℕ). mapped (joined sum) (totalAt s w n p)) next-one ∙ rw e
 
 pub total-done : (s : List ℕ) (w left p sum : ℕ) → sum < 2 ^ 64 → left ≡ 0 → mapped (joined sum) (totalAt s w left p) ≡ accepted (sum ∷ [])
 unfolding totalAt

@@ -1,5 +1,5 @@
 -- How a verdict crosses to C: an i64, and words in a lent slice.
-use Prim.Native.Nat.{ℕ, _^_}
+use Prim.Native.Nat.{ℕ}
 use mathlib.Core.List.{List, [], _∷_}
 use mathlib.Core.Bool.{Bool, true, false, cond}
 use lib.ListN.{length}
@@ -45,14 +45,6 @@ three v = v .0 ∷ v .1 ∷ v .2 ∷ []
 abbrev pub item : Item → List ℕ
 item listEnd = []
 item (box type body end) = type ∷ body ∷ end ∷ []
-
--- a call with a field wider than 32 bits is not made: what holds where it is made, and what where it is not
-abbrev pub narrow : {A : Type 0} → ℕ → A → A → A
-narrow w made not-made = cond (leb w 32) made not-made
-
--- its verdict: 2^63 where it is not made, which is answered as i64::MIN
-abbrev pub asked : {A : Type 0} → ℕ → Verdict A → Verdict A
-asked w v = narrow w v (declined (2 ^ 63))
 
 -- an answer that is a number and no words: the number itself; -12 and -k as above
 abbrev pub numbered : Verdict ℕ → ℤ

@@ -7,13 +7,13 @@ use bits::BitCursor;
 use bits::FieldRead;
 use bits::TwoRead;
 ghost use mathlib.Core.Path.{_≡_};
-ghost use Prim.Native.Nat.{_+_, _*_, _/_, _≤_};
+ghost use Prim.Native.Nat.{_+_, _*_, _/_};
 ghost use Rattle.bits.specs.Verdict.{accepted, mapped};
 ghost use Rattle.bits.specs.Field.{capped};
 ghost use Rattle.bits.specs.Read.{fieldAt, fieldSays, twoAt, twoSays};
-ghost use Rattle.capi.specs.Answer.{codeOf, wordsAfter, one, two, three, asked};
+ghost use Rattle.capi.specs.Answer.{codeOf, wordsAfter, one, two, three};
 ghost use Rattle.capi.specs.Reply.{Says};
-ghost use Rattle.capi.specs.Total.{totalAt, wrapped};
+ghost use Rattle.capi.specs.Total.{totalAt, totalOf, wrapped};
 
 fn of_field(x: FieldRead) -> Reply
     ensures { λ r. ⌜ Says r (mapped two (fieldSays x)) ⌝ }
@@ -21,6 +21,7 @@ fn of_field(x: FieldRead) -> Reply
     match x {
         FieldRead::Value(v, c) => accept(&[v as u64, c.bit as u64]),
         FieldRead::Short => decline(3),
+        FieldRead::TooWide => decline(16),
     }
 }
 
@@ -30,6 +31,7 @@ fn of_two(x: TwoRead) -> Reply
     match x {
         TwoRead::Values(a, b, c) => accept(&[a as u64, b as u64, c.bit as u64]),
         TwoRead::Short => decline(3),
+        TwoRead::TooWide => decline(16),
     }
 }
 
@@ -53,34 +55,26 @@ pub extern "C" fn capi_align(bit: usize, words: &mut [u64]) -> i64
     hand_out(words, accept(&[c.bit as u64]))
 }
 
-// `read` and `read_two` ask that the width is at most 32: a wider one is answered here.
 #[no_mangle]
 pub extern "C" fn capi_read(s: &[u8], bit: usize, width: u32, words: &mut [u64]) -> i64
-    ensures answer { λ r. ⌜ r ≡ codeOf (mapped two (asked width (fieldAt (now (s .entry)) bit width))) ⌝ }
+    ensures answer { λ r. ⌜ r ≡ codeOf (mapped two (fieldAt (now (s .entry)) bit width)) ⌝ }
     ensures words { λ _. ⌜ now (words .exit)
-        ≡ wordsAfter (now (words .entry)) (mapped two (asked width (fieldAt (now (s .entry)) bit width))) ⌝ }
+        ≡ wordsAfter (now (words .entry)) (mapped two (fieldAt (now (s .entry)) bit width)) ⌝ }
 {
-    if 32 < width {
-        return i64::MIN;
-    }
     hand_out(words, of_field(BitCursor { bit }.read(s, width)))
 }
 
 #[no_mangle]
 pub extern "C" fn capi_read_two(s: &[u8], bit: usize, width: u32, words: &mut [u64]) -> i64
-    ensures answer { λ r. ⌜ r ≡ codeOf (mapped three (asked width (twoAt (now (s .entry)) bit width))) ⌝ }
+    ensures answer { λ r. ⌜ r ≡ codeOf (mapped three (twoAt (now (s .entry)) bit width)) ⌝ }
     ensures words { λ _. ⌜ now (words .exit)
-        ≡ wordsAfter (now (words .entry)) (mapped three (asked width (twoAt (now (s .entry)) bit width))) ⌝ }
+        ≡ wordsAfter (now (words .entry)) (mapped three (twoAt (now (s .entry)) bit width)) ⌝ }
 {
-    if 32 < width {
-        return i64::MIN;
-    }
     hand_out(words, of_two(BitCursor { bit }.read_two(s, width)))
 }
 
 // The sum of count fields that stand one after the other from bit 0 on, modulo 2^64.
 fn sum_fields(s: &[u8], width: u32, count: u64) -> Reply
-    requires { ⌜ width ≤ 32 ⌝ }
     ensures { λ r. ⌜ Says r (mapped wrapped (totalAt (now (s .entry)) width count 0)) ⌝ }
 {
     let mut sum: u64 = 0;
@@ -97,6 +91,9 @@ fn sum_fields(s: &[u8], width: u32, count: u64) -> Reply
             FieldRead::Short => {
                 return decline(3);
             }
+            FieldRead::TooWide => {
+                return decline(16);
+            }
         }
     }
     accept(&[sum])
@@ -104,12 +101,13 @@ fn sum_fields(s: &[u8], width: u32, count: u64) -> Reply
 
 #[no_mangle]
 pub extern "C" fn capi_sum_fields(s: &[u8], width: u32, count: u64, words: &mut [u64]) -> i64
-    ensures answer { λ r. ⌜ r ≡ codeOf (mapped wrapped (asked width (totalAt (now (s .entry)) width count 0))) ⌝ }
+    ensures answer { λ r. ⌜ r ≡ codeOf (mapped wrapped (totalOf (now (s .entry)) width count)) ⌝ }
     ensures words { λ _. ⌜ now (words .exit)
-        ≡ wordsAfter (now (words .entry)) (mapped wrapped (asked width (totalAt (now (s .entry)) width count 0))) ⌝ }
+        ≡ wordsAfter (now (words .entry)) (mapped wrapped (totalOf (now (s .entry)) width count)) ⌝ }
 {
+    // no field is read where the count is 0, and the width is tested all the same
     if 32 < width {
-        return i64::MIN;
+        return hand_out(words, decline(16));
     }
     hand_out(words, sum_fields(s, width, count))
 }

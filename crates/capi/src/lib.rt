@@ -7,7 +7,6 @@
 //   -k: refusal k, and no words.
 // Words that do not fit are not stored: eight words are always enough. A call that is lent no words answers its value
 // itself, 1 or 0 for yes or no, and -k for refusal k; `capi_zigzag`, which refuses nothing, may answer below 0.
-// A field width above 32 is answered i64::MIN, and nothing is stored.
 // Each contract is an equation with the definitions that the call's own contract cites, put into words by
 // specs/Answer.antt, Shown.antt and Scene.antt.
 use payload::Bounds;

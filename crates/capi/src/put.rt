@@ -1,13 +1,14 @@
 // The calls that write.
 use super::Reply;
 use super::accept;
+use super::decline;
 use super::hand_out;
 use super::need;
 use bits::Put;
 ghost use mathlib.Core.Path.{_≡_};
 ghost use Rattle.bits.specs.Verdict.{mapped};
 ghost use Rattle.bits.specs.Put.{putSays, wordPut, wordPutAnswer, fieldPut, fieldPutAnswer};
-ghost use Rattle.capi.specs.Answer.{codeOf, wordsAfter, none, asked, narrow};
+ghost use Rattle.capi.specs.Answer.{codeOf, wordsAfter, none};
 ghost use Rattle.capi.specs.Reply.{Says};
 
 fn of_put(x: Put) -> Reply
@@ -16,6 +17,7 @@ fn of_put(x: Put) -> Reply
     match x {
         Put::Done => accept(&[]),
         Put::Needs(n) => need(&[n as u64]),
+        Put::TooWide => decline(16),
     }
 }
 
@@ -37,13 +39,10 @@ pub extern "C" fn capi_put_field(
     value: u32,
     words: &mut [u64],
 ) -> i64
-    ensures answer { λ r. ⌜ r ≡ codeOf (mapped none (asked width (fieldPutAnswer (now (out .entry)) bit width))) ⌝ }
+    ensures answer { λ r. ⌜ r ≡ codeOf (mapped none (fieldPutAnswer (now (out .entry)) bit width)) ⌝ }
     ensures words { λ _. ⌜ now (words .exit)
-        ≡ wordsAfter (now (words .entry)) (mapped none (asked width (fieldPutAnswer (now (out .entry)) bit width))) ⌝ }
-    ensures { λ _. ⌜ now (out .exit) ≡ narrow width (fieldPut (now (out .entry)) bit width value) (now (out .entry)) ⌝ }
+        ≡ wordsAfter (now (words .entry)) (mapped none (fieldPutAnswer (now (out .entry)) bit width)) ⌝ }
+    ensures { λ _. ⌜ now (out .exit) ≡ fieldPut (now (out .entry)) bit width value ⌝ }
 {
-    if 32 < width {
-        return i64::MIN;
-    }
     hand_out(words, of_put(bits::put_field(out, bit, width, value)))
 }

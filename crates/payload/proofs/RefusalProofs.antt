@@ -1,7 +1,7 @@
 -- Which refusals each call can give: a law for each way in which verdicts are put together. Assumes nothing.
 use Prim.Native.Nat.{ℕ, zero, suc, _+_, _*_, _/_, _^_}
 use mathlib.Core.Path.{_≡_, refl}
-use mathlib.Core.Bool.{true, _&&_}
+use mathlib.Core.Bool.{true, false, _&&_}
 use mathlib.Core.List.{List, [], _∷_}
 use lib.Dec.{leb, eqb}
 use lib.ListN.{length}
@@ -29,9 +29,10 @@ use Rattle.payload.specs.MeshRead.{afterPoolCount, readMesh, readItem, r
 use Rattle.payload.specs.Meshes.{listSize, drawnMeshes, recordedMeshes}
 use Rattle.payload.specs.Tables.{tableLengths, bodyRead, tablesOf}
 use Rattle.payload.specs.MeshWrite.{isMesh, meshWritten}
-use Rattle.bits.specs.Refusals.{among, Refuses, gives, refuses, RefusesOr12}
+use Rattle.bits.specs.Refusals.{among, Refuses, gives, refuses, RefusesOr12, Claim}
 use Rattle.bits.proofs.RefusalLaws.{then-refuses, mapped-refuses, cond-refuses, within-refuses, limited-refuses, complete-refuses, run-refuses, header-refuses}
-use Rattle.payload.specs.Refusals.{Refusals}
+use Rattle.bits.proofs.RefusalLaws.{unlisted, unlisted-12}
+use Rattle.payload.specs.Refusals.{EachCall, Refusals, NeverSixteen}
 use Rattle.payload.proofs.LentLaws.{answer-refuses}
 use Rattle.payload.proofs.CropProofs.{full-usable}
 use Rattle.payload.specs.declared.crop.Bounds.{Bounds}
@@ -214,6 +215,39 @@ refusals =
       cubemap-vertex-count = λ cells. counted-refuses (6 * (cells + 1) * (cells + 1));
       cubemap-index-count = λ cells. counted-refuses (36 * cells * cells);
     }
+
+-- of each call, none of which lists 16, what follows from something that is said of it
+pub map-calls : {P O P′ O′ : Claim}
+    → ((A : Type 0) (ks : List ℕ) (v : Verdict A) → among 16 ks ≡ false → P A ks v → P′ A ks v)
+    → ((A : Type 0) (ks : List ℕ) (v : Verdict A) → among 16 ks ≡ false → O A ks v → O′ A ks v)
+    → EachCall P O → EachCall P′ O′
+map-calls plain or-12 calls =
+    record {
+      parse-equi = λ s. plain _ _ _ refl (calls .parse-equi s);
+      parse-cbmp = λ s. plain _ _ _ refl (calls .parse-cbmp s);
+      measure-mesh = λ s. plain _ _ _ refl (calls .measure-mesh s);
+      measure-meshes = λ s. plain _ _ _ refl (calls .measure-meshes s);
+      parse-mesh = λ s buffers. or-12 _ _ _ refl (calls .parse-mesh s buffers);
+      parse-meshes = λ s buffers. or-12 _ _ _ refl (calls .parse-meshes s buffers);
+      mesh-records = λ s buffers. or-12 _ _ _ refl (calls .mesh-records s buffers);
+      sphere-indices-bounded = λ rings sectors b buffers. or-12 _ _ _ refl (calls .sphere-indices-bounded rings sectors b buffers);
+      sphere-indices = λ rings sectors buffers. or-12 _ _ _ refl (calls .sphere-indices rings sectors buffers);
+      sphere-uvs = λ rings sectors buffers. or-12 _ _ _ refl (calls .sphere-uvs rings sectors buffers);
+      sphere-lengths = λ rings sectors b. plain _ _ _ refl (calls .sphere-lengths rings sectors b);
+      cubemap-indices = λ cells buffers. or-12 _ _ _ refl (calls .cubemap-indices cells buffers);
+      cubemap-mesh = λ cells radius padding buffers. or-12 _ _ _ refl (calls .cubemap-mesh cells radius padding buffers);
+      cubemap-lengths = λ cells radius padding. plain _ _ _ refl (calls .cubemap-lengths cells radius padding);
+      write-equi = λ ρ buffers. or-12 _ _ _ refl (calls .write-equi ρ buffers);
+      write-cbmp = λ p buffers. or-12 _ _ _ refl (calls .write-cbmp p buffers);
+      write-mesh = λ pool coordinates rows points buffers. or-12 _ _ _ refl (calls .write-mesh pool coordinates rows points buffers);
+      vertex-count = λ rings sectors. plain _ _ _ refl (calls .vertex-count rings sectors);
+      index-count = λ rings sectors. plain _ _ _ refl (calls .index-count rings sectors);
+      cubemap-vertex-count = λ cells. plain _ _ _ refl (calls .cubemap-vertex-count cells);
+      cubemap-index-count = λ cells. plain _ _ _ refl (calls .cubemap-index-count cells);
+    }
+
+pub never-sixteen : NeverSixteen
+never-sixteen = map-calls (λ A ks v out r. unlisted 16 out r) (λ A ks v out r. unlisted-12 16 out r) refusals
 
 -- ---- a call that is lent no buffer asks for none
 

@@ -24,7 +24,8 @@ use Rattle.payload.specs.Laws.{EquiReads, EquiWrites, CbmpReads, CbmpWri
 use Rattle.payload.specs.Laws.{MeshesReads, MeshReads, MeshWrites, TablesRead}
 use Rattle.payload.specs.WrittenLaws.{EquiWritesInto, CbmpWritesInto, MeshWritesInto}
 use Rattle.payload.specs.ShareLaws.{ShareLaws}
-use Rattle.payload.specs.Refusals.{Refusals}
+use Rattle.bits.specs.Refusals.{among, Claim}
+use Rattle.payload.specs.Refusals.{EachCall, Refusals, NeverSixteen}
 use Rattle.payload.specs.NanLaws.{NanLaws}
 use Rattle.payload.specs.CropMarked.{CropMarked}
 use Rattle.payload.specs.SphereMarked.{SphereMarked}
@@ -90,6 +91,15 @@ mesh-writes-into = written.mesh-writes-into
 
 pub refusals : Refusals
 refusals = refusal.refusals
+
+pub never-sixteen : NeverSixteen
+never-sixteen = refusal.never-sixteen
+
+pub map-calls : {P O P′ O′ : Claim}
+    → ((A : Type 0) (ks : List ℕ) (v : Verdict A) → among 16 ks ≡ false → P A ks v → P′ A ks v)
+    → ((A : Type 0) (ks : List ℕ) (v : Verdict A) → among 16 ks ≡ false → O A ks v → O′ A ks v)
+    → EachCall P O → EachCall P′ O′
+map-calls = refusal.map-calls
 
 -- ---- where a float is a number, of specs/NanLaws.antt
 

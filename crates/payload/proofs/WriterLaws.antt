@@ -217,7 +217,7 @@ finish-is out from r =
     let y : 32 - k + k ≡ 32 = omega (arith, r .few) in
     let m : from .held % 2 ^ 32 % 2 ^ k ≡ waiting from = ap (λ (n : ℕ). from .held % 2 ^ n % 2 ^ k) (sym y) ∙ mod-mod-pow (from .held) (32 - k) k in
     let e : (field out (8 * (p / 8)) (p % 8) * 2 ^ k + x) ≡ 0 * 2 ^ k + x = ap (λ (n : ℕ). n * 2 ^ k + x) (ap (field out (8 * (p / 8))) o ∙ field-zero out (8 * (p / 8))) in
-    field-put-yes out p k (from .held % 2 ^ 32) (omega (arith, r .room))
+    field-put-yes out p k (from .held % 2 ^ 32) (omega (arith, r .few)) (omega (arith, r .room))
     ∙ ap (bitsPut out p k) m
     ∙ ap₂ (λ (i : ℕ) (n : ℕ). sets out i (bytesOf ((p % 8 + k + 7) / 8) (n * 2 ^ (8 * ((p % 8 + k + 7) / 8) - p % 8 - k)))) a e
     ∙ ap (λ (n : ℕ). sets out (from .at) (bytesOf ((n + k + 7) / 8) ((0 * 2 ^ k + x) * 2 ^ (8 * ((n + k + 7) / 8) - n - k)))) o

@@ -1,5 +1,5 @@
 -- Which refusals the scene call can give, from those of the calls that it makes. Assumes nothing.
-use Prim.Native.Nat.{ℕ, _<_}
+use Prim.Native.Nat.{ℕ, zero, suc, _<_}
 use mathlib.Core.Path.{_≡_, refl, sym}
 use mathlib.Core.List.{List, [], _∷_, _++_}
 use mathlib.Core.Bool.{Bool, true, false, _||_, cond}
@@ -9,6 +9,7 @@ use lib.Ieee.{Float}
 use Rattle.bits.specs.Verdict.{Verdict, accepted, declined, limited, mapped}
 use Rattle.bits.specs.Refusals.{among, Refuses, gives, refuses, RefusesOr12}
 use Rattle.bits.proofs.VerdictLaws.{clash, then-yes, then-no}
+use Rattle.bits.proofs.RefusalLaws.{remade, unlisted-12}
 use Rattle.payload.specs.Fill.{bothLengths}
 use Rattle.payload.specs.Equi.{equiRead, withCrop}
 use Rattle.payload.specs.Cbmp.{cbmpRead}
@@ -23,18 +24,13 @@ use Rattle.payload.proofs.Theorems.{refusals, limited-mapped}
 use Rattle.scene.specs.Scene.{Kind, equi, cbmp, mesh, kindOf, Given, Named, crop, padding, three}
 use Rattle.scene.specs.Scene.{planOf, kindPlan, Call, scenePlan, sceneAnswer}
 use Rattle.scene.specs.Internal.{gridPlan, equiPlan, cbmpPlan, afterGrid, faceShare}
-use Rattle.scene.specs.Refusals.{SceneRefusals}
+use Rattle.scene.specs.Refusals.{SceneRefusals, NeverSixteen}
 use Rattle.scene.proofs.KindLaws.{equi-read, equi-declined, cbmp-read, cbmp-declined}
 use Rattle.scene.proofs.SceneLaws.{kind-equi, kind-cbmp, kind-mesh, kind-none}
 
 -- ---- the ways in which the call's plan is put together
 
 module _ {ks : List ℕ} where
-  -- what is made of a value does not matter
-  remade : {A B C : Type 0} (f : A → B) (g : A → C) (v : Verdict A) → Refuses ks (mapped f v) → Refuses ks (mapped g v)
-  remade f g (accepted a) r = gives (g a)
-  remade f g (declined j) (refuses k h) = refuses k h
-
   grid-refuses : (name : Named) (v w : Verdict (List ℕ)) → Refuses ks (bothLengths v w) → Refuses ks (gridPlan name v w)
   grid-refuses name (accepted l) w r = remade _ _ w r
   grid-refuses name (declined j) w (refuses k h) = refuses k h
@@ -146,3 +142,15 @@ scene-refusals =
       kind-2 = λ c e. of-kind c mesh (kind-mesh (c .kind) e) (meshes-refuse (c .given) (c .payload));
       other = other;
     }
+
+pub never-sixteen : NeverSixteen
+never-sixteen c e = go (c .kind) refl
+  where
+    go : (n : ℕ) → c .kind ≡ n → ⊥
+    go zero h = unlisted-12 16 refl (scene-refusals .kind-0 c h) e
+    go (suc zero) h = unlisted-12 16 refl (scene-refusals .kind-1 c h) e
+    go (suc (suc zero)) h = unlisted-12 16 refl (scene-refusals .kind-2 c h) e
+    go (suc (suc (suc n))) h =
+        let one : sceneAnswer c ≡ declined 1 = scene-refusals .other c (omega arith) in
+        let both : _≡_ {A = ℕ} 1 16 = cc in
+        absurd (omega arith)

@@ -1,3 +1,4 @@
 -- The laws that the functions' proofs cite.
 pub mod NumberLaws
 pub mod PointLaws
+pub mod RefusalProofs

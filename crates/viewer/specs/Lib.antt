@@ -1,2 +1,3 @@
--- What the crate's contracts cite.
+-- What the crate's contracts cite, and in `Refusals` which numbers its answers can be.
 pub mod Number
+pub mod Refusals

@@ -15,3 +15,4 @@ pub const MEASURES: i64 = 11;
 pub const NEEDS: i64 = 12;
 pub const NO_MESH: i64 = 13;
 pub const TOO_MANY: i64 = 14;
+pub const WIDE: i64 = 16;

@@ -4,7 +4,7 @@
 //! A cursor is a place by value beside the slice, so that reading gives the value and the place after it:
 //!
 //! ```
-//! use hoodsorrel::bits::{bit_width, zigzag, BitCursor, ByteCursor, Width};
+//! use hoodsorrel::bits::{bit_width, zigzag, BitCursor, ByteCursor};
 //! use hoodsorrel::Refusal;
 //!
 //! # fn main() -> Result<(), Refusal> {
@@ -13,8 +13,7 @@
 //! assert_eq!((count, after.position()), (3, 4));
 //!
 //! // Fields over a pool of three are three bits wide.
-//! let width = Width::new(bit_width(count)).expect("a count below 2^31");
-//! let (field, after) = BitCursor::new(after.position()).read(&bytes, width)?;
+//! let (field, after) = BitCursor::new(after.position()).read(&bytes, bit_width(count))?;
 //! assert_eq!((field, zigzag(field)), (5, -3));
 //! assert_eq!(after.bit, 35);
 //! # Ok(())
@@ -30,7 +29,7 @@ mod put;
 mod runs;
 
 pub use cursors::{ByteCursor, word_of};
-pub use fields::{BitCursor, Width};
+pub use fields::BitCursor;
 pub use floats::{float_bits, nearest_f32, scale};
 pub use headers::{BoxHeader, box_header};
 pub use numbers::{bit_width, run_on, stepped, zigzag};

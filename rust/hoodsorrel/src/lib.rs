@@ -1,8 +1,9 @@
 //! A verified reader and writer of panoramic payloads, on slices and numbers.
 //!
 //! Every call ends for every input, reads and writes only inside what it is lent, and answers what its definition in
-//! the library says, or the one [`Refusal`] that document 01, the scope, names. The calls themselves are proved; this
-//! crate hands their arguments over and gives their answers types. Nothing here panics.
+//! the library says, or the one [`Refusal`] that document 01, the scope, or document 02, the requests after it, names.
+//! The calls themselves are proved; this crate hands their arguments over and gives their answers types. Nothing here
+//! panics.
 //!
 //! - [`scene`]: a payload of any kind becomes its drawing, with buffers of its own ([`Drawing::of`]) or lent ones.
 //! - [`payload`]: readers, measuring calls and writers of the three kinds, meshes as tables, index makers, cube maps,

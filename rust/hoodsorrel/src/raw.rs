@@ -2,7 +2,7 @@
 //!
 //! A call that is lent `words` answers the number of words of its answer and stores them from
 //! `words[0]` on, or nothing where `words` is shorter; or `-k` for refusal k, which stores nothing;
-//! or [`NEEDS`] with the needed lengths from `words[0]` on; or [`NOT_MADE`] for a width above 32.
+//! or [`NEEDS`] with the needed lengths from `words[0]` on.
 //! The others answer a number itself, or `-k`. A float in a number, in words and in a lent `&mut [u32]` is
 //! its bit pattern; an eye is 0 for the left one and any other number for the right one.
 
@@ -12,8 +12,6 @@ pub use crate::scene::Given;
 
 /// 12: the needed lengths are in the words.
 pub const NEEDS: i64 = -12;
-/// A width above 32.
-pub const NOT_MADE: i64 = i64::MIN;
 
 /// Top, bottom, left, right.
 pub type Crop = [f32; 4];

@@ -6,7 +6,8 @@ use std::fmt;
 use crate::payload::TableLengths;
 use crate::scene::Lengths;
 
-/// Why a call declines: one of fourteen numbers of document 01, the scope, and for 12 the lengths that are needed.
+/// Why a call declines: a number of document 01, the scope, or of document 02, the requests after it, and for 12 the
+/// lengths that are needed.
 ///
 /// ```
 /// use hoodsorrel::payload::write_cbmp;
@@ -55,6 +56,8 @@ pub enum Refusal {
     NotAMesh,
     /// 14: a count reaches 2^64, or 2^63 in the viewer's calls.
     CountTooLarge,
+    /// 16: a field width is above 32.
+    FieldWidth,
 }
 
 /// The lengths that 12 tells.
@@ -69,7 +72,7 @@ pub enum Needed {
 }
 
 impl Refusal {
-    /// 1 to 14.
+    /// 1 to 14, or 16.
     pub const fn number(self) -> u8 {
         match self {
             Refusal::Kind => 1,
@@ -86,6 +89,7 @@ impl Refusal {
             Refusal::BufferTooShort(_) => 12,
             Refusal::NotAMesh => 13,
             Refusal::CountTooLarge => 14,
+            Refusal::FieldWidth => 16,
         }
     }
 
@@ -95,11 +99,12 @@ impl Refusal {
     /// use hoodsorrel::Refusal;
     ///
     /// assert_eq!(Refusal::from_number(8), Some(Refusal::RunningNumber));
+    /// assert_eq!(Refusal::from_number(16), Some(Refusal::FieldWidth));
     /// assert_eq!([0, 12, 15].map(Refusal::from_number), [None; 3]);
     /// ```
     pub fn from_number(number: u8) -> Option<Refusal> {
         match number {
-            1..=11 | 13 | 14 => Some(Refusal::of_code(-i64::from(number), Needed::One(0))),
+            1..=11 | 13 | 14 | 16 => Some(Refusal::of_code(-i64::from(number), Needed::One(0))),
             _ => None,
         }
     }
@@ -134,6 +139,7 @@ impl Refusal {
                 "the writer's tables are not a mesh, or its box would exceed 67,108,864 bytes"
             }
             Refusal::CountTooLarge => "a count reaches 2^64, or 2^63 where the answer is an i64",
+            Refusal::FieldWidth => "a field width is above 32",
         }
     }
 
@@ -146,7 +152,7 @@ impl Refusal {
     }
 
     /// The refusal of a number below 0 that a C function answered. 12 comes with its lengths. The contracts of the
-    /// functions name no number below -14, so that all others stand for 14.
+    /// functions name no other number than these, so that all others stand for 14.
     pub(crate) fn of_code(code: i64, needed: Needed) -> Refusal {
         match code {
             -1 => Refusal::Kind,
@@ -162,6 +168,7 @@ impl Refusal {
             -11 => Refusal::RadiusOrFaceWidth,
             -12 => Refusal::BufferTooShort(needed),
             -13 => Refusal::NotAMesh,
+            -16 => Refusal::FieldWidth,
             _ => Refusal::CountTooLarge,
         }
     }
@@ -199,9 +206,13 @@ impl fmt::Display for Needed {
 mod tests {
     use super::{Needed, Refusal};
 
+    fn numbers() -> impl Iterator<Item = u8> {
+        (1..=14).chain([16])
+    }
+
     #[test]
     fn each_number_is_that_of_its_code() {
-        for number in 1..=14 {
+        for number in numbers() {
             let refusal = Refusal::of_code(-i64::from(number), Needed::One(7));
             assert_eq!(refusal.number(), number);
             let lengths = (number == 12).then_some(Needed::One(7));
@@ -211,8 +222,8 @@ mod tests {
 
     #[test]
     fn no_two_mean_the_same() {
-        let all: Vec<Refusal> = (1..=14)
-            .map(|number| Refusal::of_code(-number, Needed::One(0)))
+        let all: Vec<Refusal> = numbers()
+            .map(|number| Refusal::of_code(-i64::from(number), Needed::One(0)))
             .collect();
         for a in &all {
             for b in &all {

@@ -2,7 +2,7 @@
 
 use std::fmt::Debug;
 
-use hoodsorrel::bits::{Width, put_field, put_word};
+use hoodsorrel::bits::{put_field, put_word};
 use hoodsorrel::payload::*;
 use hoodsorrel::scene::{CBMP, EQUI, MESHES, Scene, scene};
 use hoodsorrel::{Drawing, Given, Lengths, Needed, Refusal};
@@ -68,19 +68,22 @@ fn makers() {
 #[test]
 fn words_and_fields() {
     one(0xA5, 4, |out| put_word(out, 0, 0x0102_0304));
-    let nine = Width::new(9).expect("at most 32");
-    one(0xA5, 2, |out| put_field(out, 0, nine, 0x1FF));
+    one(0xA5, 2, |out| put_field(out, 0, 9, 0x1FF));
     let mut out = [0xA5; 8];
     assert_eq!(put_word(&mut out, 2, 0x0102_0304), Ok(()));
     assert_eq!(out, [0xA5, 0xA5, 1, 2, 3, 4, 0xA5, 0xA5]);
-    assert_eq!(put_field(&mut out, 12, nine, 0), Ok(()));
+    assert_eq!(put_field(&mut out, 12, 9, 0), Ok(()));
     assert_eq!(out, [0xA5, 0xA0, 0, 2, 3, 4, 0xA5, 0xA5]);
     for at in [5, usize::MAX - 4, usize::MAX - 3, usize::MAX] {
         assert_eq!(put_word(&mut out, at, 7).map_err(Refusal::number), Err(12));
     }
     for bit in [56, usize::MAX - 8, usize::MAX] {
-        let answer = put_field(&mut out, bit, nine, 7);
+        let answer = put_field(&mut out, bit, 9, 7);
         assert_eq!(answer.map_err(Refusal::number), Err(12));
+    }
+    for bit in [0, 56, usize::MAX - 8, usize::MAX] {
+        let answer = put_field(&mut out, bit, 33, 7);
+        assert_eq!(answer.map_err(Refusal::number), Err(16));
     }
     assert_eq!(out, [0xA5, 0xA0, 0, 2, 3, 4, 0xA5, 0xA5]);
 }

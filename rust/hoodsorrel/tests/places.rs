@@ -13,10 +13,6 @@ fn places() -> impl Iterator<Item = usize> {
         .chain(usize::MAX - 40..=usize::MAX)
 }
 
-fn widths() -> impl Iterator<Item = Width> {
-    (1..=32).filter_map(Width::new)
-}
-
 #[test]
 fn bytes() {
     for at in places() {
@@ -38,13 +34,16 @@ fn bytes() {
 fn bits() {
     for bit in places().filter(|bit| *bit > 40) {
         let cursor = BitCursor { bit };
-        for width in widths() {
+        for width in 1..=32 {
             assert_eq!(cursor.read(&DATA, width), Err(Refusal::TooFewBytes));
             assert_eq!(cursor.read_two(&DATA, width), Err(Refusal::TooFewBytes));
         }
-        let nothing = Width::default();
-        assert_eq!(cursor.read(&DATA, nothing), Ok((0, cursor)));
-        assert_eq!(cursor.read_two(&DATA, nothing), Ok((0, 0, cursor)));
+        for width in [33, 34, u32::MAX] {
+            assert_eq!(cursor.read(&DATA, width), Err(Refusal::FieldWidth));
+            assert_eq!(cursor.read_two(&DATA, width), Err(Refusal::FieldWidth));
+        }
+        assert_eq!(cursor.read(&DATA, 0), Ok((0, cursor)));
+        assert_eq!(cursor.read_two(&DATA, 0), Ok((0, 0, cursor)));
         assert!(cursor.align_to_byte() >= cursor);
         assert!(BitCursor::new(bit).bit >= bit);
     }
@@ -76,7 +75,6 @@ fn numbers() {
     assert_eq!(zigzag(u32::MAX - 1), i32::MAX);
     assert_eq!(bit_width(0), 0);
     assert_eq!(bit_width(u32::MAX), 33);
-    assert_eq!(Width::new(bit_width(u32::MAX)), None);
     assert_eq!(
         run_on(u32::MAX, u32::MAX - 1, u32::MAX),
         Err(Refusal::RunningNumber)

@@ -66,17 +66,16 @@ fn bits(met: &mut Met) {
     met.refused("ByteCursor::skip", 3, byte.skip(&[0; 4], 5));
     met.refused("ByteCursor::u8", 3, byte.u8(&[]));
     met.refused("ByteCursor::u32", 3, byte.u32(&[0; 3]));
-    let nine = Width::new(9).expect("at most 32");
-    met.refused("BitCursor::read", 3, BitCursor::new(0).read(&[0], nine));
-    met.refused(
-        "BitCursor::read_two",
-        3,
-        BitCursor::new(0).read_two(&[0; 2], nine),
-    );
+    let bit = BitCursor::new(0);
+    met.refused("BitCursor::read", 3, bit.read(&[0], 9));
+    met.refused("BitCursor::read", 16, bit.read(&[0; 9], 33));
+    met.refused("BitCursor::read_two", 3, bit.read_two(&[0; 2], 9));
+    met.refused("BitCursor::read_two", 16, bit.read_two(&[0; 9], 33));
     met.refused("run_on", 8, run_on(0, 1, 1));
     met.refused("box_header", 6, box_header(b"\0\0\0\x09mesh", byte));
     met.refused("put_word", 12, put_word(&mut [0; 3], 0, 0));
-    met.refused("put_field", 12, put_field(&mut [0], 0, nine, 0));
+    met.refused("put_field", 12, put_field(&mut [0], 0, 9, 0));
+    met.refused("put_field", 16, put_field(&mut [0; 9], 0, 33, 0));
     let run = Run {
         bit: 0,
         limit: 1,

@@ -22,6 +22,8 @@ pub(in crate::mesh) fn one_field(s: &[u8], bit: usize, width: u32) -> u32
     let here = BitCursor { bit };
     match here.read(s, width) {
         FieldRead::Value(value, _) => value,
+        // never: it is there, and no wider than 32 bits
         FieldRead::Short => 0,
+        FieldRead::TooWide => 0,
     }
 }

@@ -1,7 +1,6 @@
 // Items that are spelled big end first, one after the other.
 use bits::BitCursor;
 use bits::FieldRead;
-ghost use Prim.Native.Nat.{_≤_};
 
 // An item and the bit place after it.
 struct Item {
@@ -9,10 +8,8 @@ struct Item {
     after: usize,
 }
 
-// The item of so many bits at a place; where the data ends before, 0 and the same place.
-fn read_item(data: &[u8], bit: usize, width: u32) -> Item
-    requires { ⌜ width ≤ 32 ⌝ }
-{
+// The item of so many bits at a place; 0 and the same place where the data ends before, or the width is above 32.
+fn read_item(data: &[u8], bit: usize, width: u32) -> Item {
     let here = BitCursor { bit };
     match here.read(data, width) {
         FieldRead::Value(value, next) => Item {
@@ -20,6 +17,10 @@ fn read_item(data: &[u8], bit: usize, width: u32) -> Item
             after: next.bit,
         },
         FieldRead::Short => Item {
+            value: 0,
+            after: bit,
+        },
+        FieldRead::TooWide => Item {
             value: 0,
             after: bit,
         },

@@ -65,7 +65,7 @@ const FORM: &str = "\
 # CALL, COUNT, ARG, CODE and SUM are hexadecimal. COUNT is the number of ARGs; a float is its bits, a
 # length one of items. DATA is bytes, two digits each. CODE is the answer, an i64: the number of its
 # words, or the number itself where no words are lent, or -k for refusal k, of which 12 names the
-# needed lengths in its words, or 8000000000000000 for a width above 32.
+# needed lengths in its words.
 # SUM is FNV-1a in 32 bits over the bytes of what was lent as it is after the call, each item with
 # its big end first: eight words where words are lent, then the buffers. Before the call all their
 # bytes are a5.

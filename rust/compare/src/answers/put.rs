@@ -29,6 +29,7 @@ pub fn add(list: &mut List, random: &mut Random) {
         }
         for bit in [usize::MAX - 31, usize::MAX - 7, usize::MAX] {
             field(list, n, bit, random.below(33) as u32, random.word());
+            field(list, n, bit, 33, u32::MAX);
         }
     }
 }

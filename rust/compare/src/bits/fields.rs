@@ -6,7 +6,7 @@ use crate::inputs::buffers::{largest, place, short_buffers, slice};
 use crate::inputs::random::Random;
 use crate::lent::answer::Answer;
 use crate::options::Options;
-use crate::refusals::SHORT;
+use crate::refusals::{SHORT, WIDE};
 use crate::tally::Tally;
 
 const NAME: &str = "fields";
@@ -54,10 +54,10 @@ fn places_alone(tally: &mut Tally, random: &mut Random) {
     }
 }
 
-/// What a field is in the Rust, which allows no width above 32.
+/// What a field is in the Rust, which allows no width above 32: there 16, document 02's, before anything is read.
 pub fn due(data: &[u8], bit: usize, width: u32) -> Answer {
     if width > 32 {
-        return Answer::not_made();
+        return Answer::refused(WIDE);
     }
     let mut reader = BitReader::new(data, 0);
     reader.bit = bit;
@@ -113,15 +113,17 @@ fn align(tally: &mut Tally, bit: usize) {
 
 /// What the Rust's sums and products wrap at or come close to, and widths that it does not allow.
 fn beyond(options: &Options, random: &mut Random) -> Tally {
-    let what = "no field at the largest places, the largest place for one that would be larger, no width above 32";
+    let what = "no field at the largest places, the largest place for one that would be larger, 16 for a width above 32";
     let mut tally = Tally::new(options, "fields beyond the Rust", what);
     for data in short_buffers(random, 2) {
         for bit in largest() {
             no_field(&mut tally, &data, bit);
         }
+        // wherever the place is: the width is told where the field would be too short as well
         for width in (33..200).chain([u32::MAX - 1, u32::MAX]) {
-            let bit = place(random, 8 * data.len());
-            read(&mut tally, &data, bit, width);
+            for bit in (0..=8 * data.len() + 40).chain(largest()) {
+                read(&mut tally, &data, bit, width);
+            }
         }
     }
     for n in 0..10_000 {

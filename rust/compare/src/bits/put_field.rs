@@ -7,13 +7,14 @@ use crate::inputs::random::Random;
 use crate::lent::answer::Answer;
 use crate::lent::put::{self, Due};
 use crate::options::Options;
+use crate::refusals::WIDE;
 use crate::tally::Tally;
 
 const NAME: &str = "put_field";
 const RANDOM: u32 = 1_000_000;
 
 pub fn run(options: &Options) -> Vec<Tally> {
-    let what = "answer and buffer against a loop over the bits, read back with mesh::BitReader; no width above 32";
+    let what = "answer and buffer against a loop over the bits, read back with mesh::BitReader; 16 for a width above 32";
     let mut tally = Tally::new(options, NAME, what);
     let mut random = Random::new(options.seed, NAME);
     for before in short_buffers(&mut random, 4) {
@@ -22,9 +23,11 @@ pub fn run(options: &Options) -> Vec<Tally> {
                 values(&mut tally, &mut random, &before, bit, width);
             }
         }
+        // wherever the place is: the width is told where the buffer is too short as well
         for width in (33..100).chain([u32::MAX - 1, u32::MAX]) {
-            let bit = place(&mut random, 8 * before.len());
-            check(&mut tally, &before, bit, width, random.word());
+            for bit in (0..=8 * before.len() + 40).chain(largest()) {
+                check(&mut tally, &before, bit, width, random.word());
+            }
         }
     }
     let pool = random.bytes(4096);
@@ -51,7 +54,7 @@ pub fn low(value: u32, width: u32) -> u32 {
 
 pub fn due(before: &[u8], bit: usize, width: u32, value: u32) -> Due<u32> {
     if width > 32 {
-        return Due::unchanged(Answer::not_made(), before);
+        return Due::unchanged(Answer::refused(WIDE), before);
     }
     let end = bit as u128 + u128::from(width);
     let needed = end.div_ceil(8) as usize;

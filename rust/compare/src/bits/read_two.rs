@@ -5,14 +5,14 @@ use crate::inputs::buffers::{largest, place, short_buffers, slice};
 use crate::inputs::random::Random;
 use crate::lent::answer::Answer;
 use crate::options::Options;
-use crate::refusals::SHORT;
+use crate::refusals::{SHORT, WIDE};
 use crate::tally::Tally;
 
 const NAME: &str = "read_two";
 const RANDOM: u32 = 1_000_000;
 
 pub fn run(options: &Options) -> Vec<Tally> {
-    let what = "both fields and the place after them against bits one by one; no width above 32";
+    let what = "both fields and the place after them against bits one by one; 16 for a width above 32";
     let mut tally = Tally::new(options, NAME, what);
     let mut random = Random::new(options.seed, NAME);
     for data in short_buffers(&mut random, 4) {
@@ -36,7 +36,7 @@ pub fn due(data: &[u8], bit: usize, width: u32) -> Answer {
     match width {
         0 => Answer::words(&[0, 0, bit as u64]),
         1..=32 => Answer::words_or(two(data, bit, width), SHORT),
-        _ => Answer::not_made(),
+        _ => Answer::refused(WIDE),
     }
 }
 

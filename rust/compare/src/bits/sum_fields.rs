@@ -6,14 +6,14 @@ use crate::inputs::buffers::{short_buffers, slice};
 use crate::inputs::random::Random;
 use crate::lent::answer::Answer;
 use crate::options::Options;
-use crate::refusals::SHORT;
+use crate::refusals::{SHORT, WIDE};
 use crate::tally::Tally;
 
 const NAME: &str = "sum_fields";
 const RANDOM: u32 = 100_000;
 
 pub fn run(options: &Options) -> Vec<Tally> {
-    let what = "against a loop that reads with mesh::BitReader";
+    let what = "against a loop that reads with mesh::BitReader; 16 for a width above 32";
     let mut tally = Tally::new(options, NAME, what);
     let mut random = Random::new(options.seed, NAME);
     for data in short_buffers(&mut random, 2) {
@@ -22,8 +22,11 @@ pub fn run(options: &Options) -> Vec<Tally> {
                 check(&mut tally, &data, width, count);
             }
         }
-        not_made(&mut tally, &data, 33);
-        not_made(&mut tally, &data, u32::MAX);
+        for width in [33, 34, u32::MAX] {
+            for count in [0, 1, 2, u64::MAX] {
+                check(&mut tally, &data, width, count);
+            }
+        }
     }
     let pool = random.bytes(4096);
     for _ in 0..RANDOM {
@@ -42,7 +45,15 @@ fn fitting(data: &[u8], width: u32) -> u64 {
         .unwrap_or(8)
 }
 
-fn due(data: &[u8], width: u32, count: u64) -> Option<[u64; 1]> {
+/// A width above 32 is told whatever the count is.
+fn due(data: &[u8], width: u32, count: u64) -> Answer {
+    if width > 32 {
+        return Answer::refused(WIDE);
+    }
+    Answer::words_or(sum(data, width, count), SHORT)
+}
+
+fn sum(data: &[u8], width: u32, count: u64) -> Option<[u64; 1]> {
     let mut reader = BitReader::new(data, 0);
     let mut sum = 0u64;
     for _ in 0..count {
@@ -53,16 +64,8 @@ fn due(data: &[u8], width: u32, count: u64) -> Option<[u64; 1]> {
 
 fn check(tally: &mut Tally, data: &[u8], width: u32, count: u64) {
     tally.call(
-        &Answer::words_or(due(data, width, count), SHORT),
+        &due(data, width, count),
         |words| hoodsorrel::raw::sum_fields(data, width, count, words),
         || (data.to_vec(), width, count),
-    );
-}
-
-fn not_made(tally: &mut Tally, data: &[u8], width: u32) {
-    tally.call(
-        &Answer::not_made(),
-        |words| hoodsorrel::raw::sum_fields(data, width, 1, words),
-        || (data.to_vec(), width, 1),
     );
 }

@@ -67,10 +67,6 @@ impl Answer {
         Answer::new(hoodsorrel::raw::NEEDS, &words[..lengths.len()])
     }
 
-    pub fn not_made() -> Answer {
-        Answer::new(hoodsorrel::raw::NOT_MADE, &[])
-    }
-
     pub fn code(&self) -> i64 {
         self.code
     }

@@ -1,7 +1,6 @@
 //! A word, and a field, put into a lent buffer.
 
 use crate::answer::words;
-use crate::bits::Width;
 use crate::raw;
 use crate::refusal::Refusal;
 
@@ -25,16 +24,17 @@ pub fn put_word(out: &mut [u8], at: usize, x: u32) -> Result<(), Refusal> {
 
 /// Puts the low bits of a value at a bit. The bits before it stay, those after it in its last byte become 0.
 ///
-/// Refused with 12 where it does not fit, and then nothing is put.
+/// Refused with 16 where the width is above 32, and then with 12 where it does not fit; then nothing is put.
 ///
 /// ```
-/// use hoodsorrel::bits::{put_field, Width};
+/// use hoodsorrel::bits::put_field;
+/// use hoodsorrel::Refusal;
 ///
-/// let five = Width::new(5).expect("at most 32");
 /// let mut out = [0xFF, 0xFF];
-/// assert_eq!(put_field(&mut out, 6, five, 0b10101), Ok(()));
+/// assert_eq!(put_field(&mut out, 6, 5, 0b10101), Ok(()));
 /// assert_eq!(out, [0b1111_1110, 0b1010_0000]);
+/// assert_eq!(put_field(&mut out, 99, 33, 0), Err(Refusal::FieldWidth));
 /// ```
-pub fn put_field(out: &mut [u8], bit: usize, width: Width, value: u32) -> Result<(), Refusal> {
-    words(|words| raw::put_field(out, bit, width.bits(), value, words)).map(drop)
+pub fn put_field(out: &mut [u8], bit: usize, width: u32, value: u32) -> Result<(), Refusal> {
+    words(|words| raw::put_field(out, bit, width, value, words)).map(drop)
 }

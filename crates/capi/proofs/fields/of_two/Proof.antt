@@ -24,11 +24,20 @@ enum-told c = search needs
 decline-requires : tie.Need-decline-requires
 decline-requires c κs = search needs
 
+enum-told-2 : tie.Need-enum-told-2
+enum-told-2 c = search needs
+
+decline-requires-2 : tie.Need-decline-requires-2
+decline-requires-2 c κs = search needs
+
 returns : tie.Need-returns
 returns c = rw (c .before .before .before .x .given .1) (c .accept .ensures)
 
 returns-2 : tie.Need-returns-2
 returns-2 c = rw (c .before .enum-told .given .1) (c .decline .ensures)
+
+returns-3 : tie.Need-returns-3
+returns-3 c = rw (c .before .enum-told2 .given .1) (c .decline2 .ensures)
 
 pub of-two-spec : {M : Type 1} → statement M
 of-two-spec =
@@ -41,5 +50,8 @@ of-two-spec =
     accept-requires
     enum-told
     decline-requires
+    enum-told-2
+    decline-requires-2
     returns
-    returns-2)
+    returns-2
+    returns-3)

@@ -7,7 +7,7 @@ use Rattle.bits.specs.Verdict.{mapped}
 use Rattle.bits.specs.Read.{fieldSays}
 use Rattle.capi.specs.Total.{totalAt, wrapped}
 use Rattle.capi.proofs.Handed.{said}
-use Rattle.capi.proofs.Totals.{joined, joined-none, total-on, total-short, total-done}
+use Rattle.capi.proofs.Totals.{joined, joined-none, total-on, total-refused, total-done}
 use Rattle.capi.proofs.fields.sum_fields.Statement.{statement}
 use Rattle.capi.proofs.fields.sum_fields.Tie as tie
 
@@ -59,6 +59,12 @@ enum-told c = search needs
 decline-requires : tie.Need-decline-requires Inv-loop μ-loop
 decline-requires c κs = search needs
 
+enum-told-2 : tie.Need-enum-told-2 Inv-loop μ-loop
+enum-told-2 c = search needs
+
+decline-requires-2 : tie.Need-decline-requires-2 Inv-loop μ-loop
+decline-requires-2 c κs = search needs
+
 slice-aggregate-accept : tie.Need-slice-aggregate-accept Inv-loop μ-loop
 slice-aggregate-accept c = search needs
 
@@ -70,10 +76,17 @@ returns c =
     let a = c .before .before .before .before .before .before .before .args in
     let l = c .before .before .before .before .before .loop in
     let e = sym (c .before .before .before .read .ensures) ∙ ap fieldSays (c .before .enum-told .given .1) in
-    said (c .decline .ensures) (sym (l .inv .1 ∙ total-short (a .s .now) (a .width) (l .left) (l .bit) (l .sum) (omega arith) e))
+    said (c .decline .ensures) (sym (l .inv .1 ∙ total-refused (a .s .now) (a .width) (l .left) (l .bit) (l .sum) (omega arith) 3 e))
 
 returns-2 : tie.Need-returns-2 Inv-loop μ-loop
 returns-2 c =
+    let a = c .before .before .before .before .before .before .before .args in
+    let l = c .before .before .before .before .before .loop in
+    let e = sym (c .before .before .before .read .ensures) ∙ ap fieldSays (c .before .enum-told2 .given .1) in
+    said (c .decline2 .ensures) (sym (l .inv .1 ∙ total-refused (a .s .now) (a .width) (l .left) (l .bit) (l .sum) (omega arith) 16 e))
+
+returns-3 : tie.Need-returns-3 Inv-loop μ-loop
+returns-3 c =
     let a = c .before .before .before .before .before .args in
     let l = c .before .before .before .loop in
     said (c .accept .ensures) (sym (l .inv .1 ∙ total-done (a .s .now) (a .width) (l .left) (l .bit) (l .sum) (l .inv .0) (omega arith)))
@@ -95,6 +108,9 @@ sum-fields-spec =
     enum-told
     decline-requires
     returns
+    enum-told-2
+    decline-requires-2
+    returns-2
     slice-aggregate-accept
     accept-requires
-    returns-2)
+    returns-3)

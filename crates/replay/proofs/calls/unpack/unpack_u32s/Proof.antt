@@ -19,7 +19,7 @@ unpack-u32s-spec =
     Inv-loop
     μ-loop
     (λ c. omega arith)
-    (λ c κs. omega arith)
+    (λ c κs. tt)
     (λ c. omega arith)
     (λ c. omega arith)
     (λ c. omega arith)

@@ -1,0 +1,75 @@
+-- A refusal crosses to C as its number below 0, and nothing else does; so no C function but those of fields answers -16. Assumes nothing.
+use Prim.Native.Nat.{ℕ, zero, suc, _+_, _-_, _≤_}
+use mathlib.Core.Path.{_≡_, refl, ap}
+use mathlib.Core.List.{List, [], _∷_}
+use mathlib.Core.Bool.{Bool, true, false}
+use lib.IntN.{pos, negℤ}
+use Rattle.bits.specs.Verdict.{Verdict, accepted, needs, declined, mapped}
+use Rattle.bits.specs.Field.{room}
+use Rattle.bits.specs.Refusals.{among, Refuses, gives, refuses, NeverDeclines, NotMinus}
+use Rattle.bits.proofs.VerdictLaws.{clash, width-yes}
+use Rattle.bits.proofs.RefusalLaws.{within-refuses, unlisted}
+use Rattle.bits.proofs.Theorems as bit
+use Rattle.payload.proofs.Theorems as pay
+use Rattle.scene.proofs.RefusalProofs as draw
+use Rattle.capi.specs.Answer.{codeOf, numbered, truth}
+use Rattle.capi.specs.Total.{plus, totalAt}
+use Rattle.capi.specs.Refusals.{NeverInC, NeverSixteen, SumWidth}
+
+-- ---- -16 is refusal 16
+
+same-number : (k : ℕ) → negℤ (pos k) ≡ negℤ (pos 16) → k ≡ 16
+same-number zero e = clash (cc)
+same-number (suc k) e = let same : k ≡ 15 = cc in ap suc same
+
+crossed : {A : Type 0} (v : Verdict A) (words : A → List ℕ) → codeOf (mapped words v) ≡ negℤ (pos 16) → v ≡ declined 16
+unfolding codeOf
+crossed (accepted a) words e = clash (cc)
+crossed (needs l) words e = clash (cc)
+crossed (declined k) words e = ap declined (same-number k e)
+
+numbered-sixteen : (v : Verdict ℕ) → numbered v ≡ negℤ (pos 16) → v ≡ declined 16
+numbered-sixteen (accepted n) e = clash (cc)
+numbered-sixteen (needs l) e = clash (cc)
+numbered-sixteen (declined k) e = ap declined (same-number k e)
+
+-- ---- the functions
+
+never-in-c : (A : Type 0) (ks : List ℕ) (v : Verdict A) → among 16 ks ≡ false → NeverDeclines 16 A ks v → NeverInC 16 A ks v
+never-in-c A ks v out h words e = h (crossed v words e)
+
+not-value : (words : List ℕ) → NotMinus 16 (codeOf (accepted words))
+unfolding codeOf
+not-value words e = clash (cc)
+
+not-yes-no : (b : Bool) → NotMinus 16 (truth b)
+not-yes-no true e = clash (cc)
+not-yes-no false e = clash (cc)
+
+pub never-sixteen : NeverSixteen
+never-sixteen =
+    record {
+      of-bits = bit.map-calls never-in-c never-in-c bit.never-sixteen;
+      of-payload = pay.map-calls never-in-c never-in-c pay.never-sixteen;
+      of-scene = λ c words e. draw.never-sixteen c (crossed _ words e);
+      run-on = λ limit last f e. bit.never-sixteen .run-on limit last f (numbered-sixteen _ e);
+      value = not-value;
+      number = λ n e. clash (cc);
+      yes-no = not-yes-no;
+    }
+
+-- ---- the sum of fields
+
+plus-refuses : {ks : List ℕ} {v : Verdict (ℕ × ℕ)} {t : Verdict ℕ} → Refuses ks v → Refuses ks t → Refuses ks (plus v t)
+unfolding plus
+plus-refuses (gives a) (gives n) = gives _
+plus-refuses (gives a) (refuses k h) = refuses k h
+plus-refuses (refuses k h) r = refuses k h
+
+total-refuses : (s : List ℕ) (w : ℕ) → w ≤ 32 → (n p : ℕ) → Refuses (3 ∷ []) (totalAt s w n p)
+unfolding totalAt
+total-refuses s w h zero p = gives 0
+total-refuses s w h (suc n) p = plus-refuses (rw (width-yes w _ h) (within-refuses w (room s - p) _ 3 refl)) (total-refuses s w h n (p + w))
+
+pub sum-width : SumWidth
+sum-width s w n = bit.sixteen w _ (λ h. unlisted 16 refl (total-refuses s w h n 0))
