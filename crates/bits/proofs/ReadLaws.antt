@@ -1,5 +1,5 @@
 -- Laws of reads, for an arbitrary width: the bits held by five bytes, and one field and two as bits read one after the other. Assumes nothing.
-use mathlib.Core.Path.{_≡_, sym, ap, ap₂, _∙_}
+use mathlib.Core.Path.{_≡_, refl, sym, ap, ap₂, _∙_}
 use mathlib.Core.Logic.{_⊎_, inl, inr}
 use Prim.Native.Nat.{ℕ, zero, suc, _+_, _-_, _*_, _/_, _%_, _^_, _≤_, _<_, min}
 use mathlib.Core.List.{List}
@@ -7,11 +7,13 @@ use native.Mathlib.Omega.{arith}
 use native.Mathlib.Nat.{div-one}
 use lib.ListN.{length, getD}
 use lib.Pow.{high}
+use borrow.Author.Tests.{le-leb, lt-leb}
 use Rattle.bits.specs.Verdict.{Verdict, accepted, declined, within, widthLimited, andThen, mapped}
-use Rattle.bits.specs.Field.{bitAt, field, room, heldBits}
-use Rattle.bits.specs.Read.{fieldAt, twoAt, bitOn, bitByBit}
+use Rattle.bits.specs.Field.{bitAt, field, room, heldBits, wholeBytes, bytesTo, gathered}
+use Rattle.bits.specs.Read.{fieldAt, twoAt, bitOn, bitByBit, twoBitByBit, gatheredAt, twoGatheredAt, firstGathered}
+use Rattle.bits.specs.Internal.{BitsBefore}
 use Rattle.bits.proofs.VerdictLaws.{le-or-lt, clash, within-yes, within-no, within-value, width-yes, width-no, width-value, then-yes, then-no}
-use Rattle.bits.proofs.FieldLaws.{field-lt, field-split, field-window, field-five}
+use Rattle.bits.proofs.FieldLaws.{field-lt, field-split, field-window, field-five, bytes-are}
 
 -- ---- the bits that five bytes hold before bit q
 
@@ -24,26 +26,51 @@ held-is s q x e k f n l =
     ∙ high (field s (8 * (e - 5)) (heldBits q)) k (field-lt s (8 * (e - 5) + heldBits q) k)
     ∙ ap (λ (x : ℕ). field s x (heldBits q)) from
 
--- the five bytes before byte e, and all of them where there are fewer
-pub five-is : (s : List ℕ) (e x : ℕ) → 5 ≤ e → ((k : ℕ) → getD s k 0 < 256)
-    → x ≡ (getD s (e - 5) 0 * 2 ^ 24 + getD s (e - 4) 0 * 2 ^ 16 + getD s (e - 3) 0 * 2 ^ 8 + getD s (e - 2) 0) * 2 ^ 8 + getD s (e - 1) 0
-    → x ≡ field s (8 * (e - 5)) (8 * min e 5)
-five-is s e x h b q =
-    let n : 40 ≡ 8 * min e 5 = omega arith in
-    let e₁ : e - 4 ≡ e - 5 + 1 = omega arith in
-    let e₂ : e - 3 ≡ e - 5 + 2 = omega arith in
-    let e₃ : e - 2 ≡ e - 5 + 3 = omega arith in
-    let e₄ : e - 1 ≡ e - 5 + 4 = omega arith in
-    q
-    ∙ (λ i. (getD s (e - 5) 0 * 2 ^ 24 + getD s (e₁ i) 0 * 2 ^ 16 + getD s (e₂ i) 0 * 2 ^ 8 + getD s (e₃ i) 0) * 2 ^ 8 + getD s (e₄ i) 0)
-    ∙ sym (field-five s (e - 5) b)
-    ∙ ap (λ (w : ℕ). field s (8 * (e - 5)) w) n
+-- what the program gathers: x out of at most five bytes before byte e, without the k bits after q
+gathered-by : (s : List ℕ) (q x e k : ℕ) → x ≡ wholeBytes s (e - 5) (min e 5) → x ≡ field s (8 * (e - 5)) (8 * min e 5) → q + k ≡ 8 * e → k < 8
+    → BitsBefore s q (x / 2 ^ k)
+gathered-by s q x e k f g n l =
+    let end : e ≡ bytesTo q = omega arith in
+    let after : k ≡ 8 * bytesTo q - q = omega arith in
+    record {
+      bytes = ap (λ (y : ℕ). y / 2 ^ k) f ∙ ap₂ (λ (i j : ℕ). wholeBytes s (i - 5) (min i 5) / 2 ^ j) end after;
+      bits = held-is s q x e k g n l;
+    }
 
-pub fewer-is : (s : List ℕ) (e x : ℕ) → e < 5 → x ≡ field s 0 (8 * e) → x ≡ field s (8 * (e - 5)) (8 * min e 5)
-fewer-is s e x h q =
-    let a : 0 ≡ 8 * (e - 5) = omega arith in
-    let b : 8 * e ≡ 8 * min e 5 = omega arith in
-    q ∙ ap₂ (λ (u v : ℕ). field s u v) a b
+-- five bytes, each by its place
+pub five-gathered : (s : List ℕ) (q x e k : ℕ) → 5 ≤ e → ((i : ℕ) → getD s i 0 < 256)
+    → x ≡ (getD s (e - 5) 0 * 2 ^ 24 + getD s (e - 4) 0 * 2 ^ 16 + getD s (e - 3) 0 * 2 ^ 8 + getD s (e - 2) 0) * 2 ^ 8 + getD s (e - 1) 0
+    → q + k ≡ 8 * e
+    → k < 8
+    → BitsBefore s q (x / 2 ^ k)
+five-gathered s q x e k h b f n l = gathered-by s q x e k (is ∙ sym (bytes-are s (e - 5) (min e 5) b)) is n l
+  where
+    is : x ≡ field s (8 * (e - 5)) (8 * min e 5)
+    is =
+        let n : 40 ≡ 8 * min e 5 = omega arith in
+        let e₁ : e - 4 ≡ e - 5 + 1 = omega arith in
+        let e₂ : e - 3 ≡ e - 5 + 2 = omega arith in
+        let e₃ : e - 2 ≡ e - 5 + 3 = omega arith in
+        let e₄ : e - 1 ≡ e - 5 + 4 = omega arith in
+        f
+        ∙ (λ i. (getD s (e - 5) 0 * 2 ^ 24 + getD s (e₁ i) 0 * 2 ^ 16 + getD s (e₂ i) 0 * 2 ^ 8 + getD s (e₃ i) 0) * 2 ^ 8 + getD s (e₄ i) 0)
+        ∙ sym (field-five s (e - 5) b)
+        ∙ ap (λ (w : ℕ). field s (8 * (e - 5)) w) n
+
+-- all bytes before byte e, where there are fewer
+pub fewer-gathered : (s : List ℕ) (q x e k : ℕ) → e < 5 → (x ≡ wholeBytes s 0 e) × (x ≡ field s 0 (8 * e)) → q + k ≡ 8 * e → k < 8 → BitsBefore s q (x / 2 ^ k)
+fewer-gathered s q x e k h f n l =
+    let from : 0 ≡ e - 5 = omega arith in
+    let size : e ≡ min e 5 = omega arith in
+    gathered-by s q x e k (f .0 ∙ ap₂ (λ (u v : ℕ). wholeBytes s u v) from size) (f .1 ∙ ap₂ (λ (u v : ℕ). field s (8 * u) (8 * v)) from size) n l
+
+-- and in any bytes what is gathered is what they hold
+pub gathered-is : (s : List ℕ) → ((i : ℕ) → getD s i 0 < 256) → (q : ℕ) → BitsBefore s q (gathered s q)
+gathered-is s b q =
+    record {
+      bytes = refl;
+      bits = held-is s q (wholeBytes s (bytesTo q - 5) (min (bytesTo q) 5)) (bytesTo q) (8 * bytesTo q - q) (bytes-are s (bytesTo q - 5) (min (bytesTo q) 5) b) (omega arith) (omega arith);
+    }
 
 -- a field that ends r bits before q
 pub field-held : (s : List ℕ) (p w r : ℕ) → w + r ≤ heldBits (p + w + r) → field s (p + w + r - heldBits (p + w + r)) (heldBits (p + w + r)) / 2 ^ r % 2 ^ w ≡ field s p w
@@ -57,14 +84,14 @@ field-held s p w r h =
     ∙ ap (λ (x : ℕ). field s x w) from
 
 -- up to 33 bits before q, whatever q is
-pub taken : (s : List ℕ) (p w r q x v : ℕ) → w + r ≤ 33 → q ≡ p + w + r → x ≡ field s (q - heldBits q) (heldBits q) → v ≡ x / 2 ^ r % 2 ^ w → v ≡ field s p w
+pub taken : (s : List ℕ) (p w r q x v : ℕ) → w + r ≤ 33 → q ≡ p + w + r → BitsBefore s q x → v ≡ x / 2 ^ r % 2 ^ w → v ≡ field s p w
 taken s p w r q x v h e f g =
     g
-    ∙ ap (λ (x : ℕ). x / 2 ^ r % 2 ^ w) (f ∙ ap (λ (k : ℕ). field s (k - heldBits k) (heldBits k)) e)
+    ∙ ap (λ (x : ℕ). x / 2 ^ r % 2 ^ w) (f .bits ∙ ap (λ (k : ℕ). field s (k - heldBits k) (heldBits k)) e)
     ∙ field-held s p w r (omega arith)
 
 -- and the last of them
-pub taken-last : (s : List ℕ) (p w q x v : ℕ) → w ≤ 32 → q ≡ p + w → x ≡ field s (q - heldBits q) (heldBits q) → v ≡ x % 2 ^ w → v ≡ field s p w
+pub taken-last : (s : List ℕ) (p w q x v : ℕ) → w ≤ 32 → q ≡ p + w → BitsBefore s q x → v ≡ x % 2 ^ w → v ≡ field s p w
 taken-last s p w q x v h e f g = taken s p w 0 q x v (omega arith) (omega arith) f (g ∙ ap (λ (y : ℕ). y % 2 ^ w) (sym (div-one x)))
 
 -- ---- what a read says
@@ -161,12 +188,45 @@ module _ (s : List ℕ) (p w : ℕ) where
   both-no l (inl h) = first-yes h ∙ second-no h l
   both-no l (inr h) = then-no (bitByBit s p w) second 3 (bits-no s p w h)
 
-  pub two-by-bits : twoAt s p w ≡ widthLimited w (andThen (bitByBit s p w) (λ u. mapped (λ v. (u .0, v .0, v .1)) (bitByBit s (u .1) w)))
+  pub two-by-bits : twoAt s p w ≡ widthLimited w (twoBitByBit s p w)
   two-by-bits = ap (λ (v : Verdict (ℕ × ℕ × ℕ)). widthLimited w v) (go (le-or-lt (2 * w) (room s - p)))
     where
       go : (2 * w ≤ room s - p) ⊎ (room s - p < 2 * w) → two-said s p w ≡ andThen (bitByBit s p w) second
       go (inl h) = within-yes (2 * w) (room s - p) (field s p w, field s (p + w) w, p + 2 * w) (declined 3) h ∙ sym (first-yes (omega arith) ∙ second-yes h)
       go (inr h) = within-no (2 * w) (room s - p) (field s p w, field s (p + w) w, p + 2 * w) (declined 3) h ∙ sym (both-no h (le-or-lt w (room s - p)))
+
+-- ---- gathered from whole bytes
+
+module _ (s : List ℕ) (b : (i : ℕ) → getD s i 0 < 256) (p w : ℕ) (n : w ≤ 32) where
+  last-gathered : (q : ℕ) → q ≡ p + w → gathered s q % 2 ^ w ≡ field s p w
+  last-gathered q e = taken-last s p w q (gathered s q) (gathered s q % 2 ^ w) n e (gathered-is s b q) refl
+
+  first-gathered : firstGathered s p w ≡ field s p w
+  first-gathered = go (le-or-lt w 16)
+    where
+      go : (w ≤ 16) ⊎ (16 < w) → firstGathered s p w ≡ field s p w
+      go (inl h) = simp (le-leb w 16 h) (taken s p w w (p + 2 * w) (gathered s (p + 2 * w)) (gathered s (p + 2 * w) / 2 ^ w % 2 ^ w) (omega arith) (omega arith) (gathered-is s b (p + 2 * w)) refl)
+      go (inr h) = simp (lt-leb w 16 h) (last-gathered (p + w) refl)
+
+module _ (s : List ℕ) (b : (i : ℕ) → getD s i 0 < 256) (p w : ℕ) where
+  one-is : (w ≤ 32) ⊎ (32 < w) → gatheredAt s p w ≡ fieldAt s p w
+  one-is (inl n) = ap (λ (v : ℕ). widthLimited w (within w (room s - p) (v, p + w) (declined 3))) (last-gathered s b p w n (p + w) refl)
+  one-is (inr h) = width-no w (within w (room s - p) (gathered s (p + w) % 2 ^ w, p + w) (declined 3)) h ∙ sym (one-wide s p w h)
+
+  two-is : (w ≤ 32) ⊎ (32 < w) → twoGatheredAt s p w ≡ twoAt s p w
+  two-is (inl n) =
+      ap₂ (λ (u v : ℕ). widthLimited w (within (2 * w) (room s - p) (u, v, p + 2 * w) (declined 3)))
+      (first-gathered s b p w n)
+      (last-gathered s b (p + w) w n (p + 2 * w) (omega arith))
+  two-is (inr h) =
+      width-no w (within (2 * w) (room s - p) (firstGathered s p w, gathered s (p + 2 * w) % 2 ^ w, p + 2 * w) (declined 3)) h
+      ∙ sym (two-wide s p w h)
+
+  pub one-gathered : gatheredAt s p w ≡ widthLimited w (bitByBit s p w)
+  one-gathered = one-is (le-or-lt w 32) ∙ one-by-bits s p w
+
+  pub two-gathered : twoGatheredAt s p w ≡ widthLimited w (twoBitByBit s p w)
+  two-gathered = two-is (le-or-lt w 32) ∙ two-by-bits s p w
 
 -- ---- a field that is known to be there
 

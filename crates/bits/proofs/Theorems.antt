@@ -10,14 +10,14 @@ use lib.ListN.{length, getD}
 use lib.Pow.{pow-pos}
 use Rattle.bits.specs.Field.{field, room}
 use Rattle.bits.specs.Put.{free, bitsPut, fieldPut, fieldPutAnswer}
-use Rattle.bits.specs.Laws.{FieldLaws, ReadLaws, FieldWidthLaws, RunningLaws, RunLaws, WidthLaws, FieldPutLaws}
+use Rattle.bits.specs.Laws.{FieldLaws, ReadLaws, FieldGathered, FieldWidthLaws, RunningLaws, RunLaws, WidthLaws, FieldPutLaws}
 use Rattle.bits.proofs.VerdictLaws.{le-or-lt, within-yes, width-yes, width-no}
 use Rattle.bits.proofs.FieldLaws.{field-lt, field-split, field-bytes, field-window, field-append, field-append-right, field-inj}
 use Rattle.bits.specs.Verdict.{Verdict, accepted, needs, declined, widthLimited}
 use Rattle.bits.specs.Number.{Moves, steppedTo, widthOf}
 use Rattle.bits.specs.Run.{RunSpells, zeros, readRun}
 use Rattle.bits.specs.Refusals.{among, Claim, EachCall, Refusals, NeverSixteen}
-use Rattle.bits.proofs.ReadLaws.{one-by-bits, two-by-bits, field-held}
+use Rattle.bits.proofs.ReadLaws.{one-by-bits, two-by-bits, field-held, one-gathered, two-gathered}
 use Rattle.bits.proofs.NumberLaws.{moves-meaning, meaning-moves, ran-moves, moves-ran, stepped-in, moves-stepped, width-enough, width-least}
 use Rattle.bits.proofs.RunLaws.{run-spells, spells-run}
 use Rattle.bits.proofs.SummedLaws.{read-summed}
@@ -38,6 +38,9 @@ field-laws =
 
 pub read-laws : ReadLaws
 read-laws = record { one = one-by-bits; two = two-by-bits; held = field-held }
+
+pub field-gathered : (s : List ℕ) (p w : ℕ) → FieldGathered s p w
+field-gathered s p w = record { one = λ b. one-gathered s b p w; two = λ b. two-gathered s b p w }
 
 stepped-moves : (limit last f next : ℕ) → f < 2 ^ 32 → limit ≤ 2 ^ 32 → (steppedTo last f ≡ next) × (next < limit) → Moves f last next × (next < limit)
 stepped-moves limit last f next hf hl (e, l) =

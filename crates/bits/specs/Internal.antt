@@ -1,11 +1,11 @@
 -- What the contracts of private functions cite. No promise of a public call leans on these.
-use Prim.Native.Nat.{ℕ, _+_, _*_, _≤_, _<_}
+use Prim.Native.Nat.{ℕ, _+_, _-_, _*_, _≤_, _<_}
 use mathlib.Core.Path.{_≡_}
 use mathlib.Core.Bool.{Bool, _&&_, cond}
 use mathlib.Core.List.{List, [], _∷_}
 use lib.Dec.{leb, ltb}
 use lib.ListN.{length}
-use Rattle.bits.specs.Field.{field}
+use Rattle.bits.specs.Field.{field, heldBits, gathered}
 use Rattle.bits.specs.Number.{steppedTo}
 use Rattle.bits.specs.Run.{zeros, low16}
 use Rattle.bits.specs.declared.fields.runs.Fields.{Fields}
@@ -17,6 +17,11 @@ pub record Inside (s : List ℕ) (p n : ℕ) : Type 0 where
   pub short : length s ≤ 67108864
   pub low : 33 ≤ p
   pub whole : p + n ≤ 8 * length s
+
+-- r is what the whole bytes before bit q give, which is the number of the bits that they hold before it
+pub record BitsBefore (s : List ℕ) (q r : ℕ) : Type 0 where
+  pub bytes : r ≡ gathered s q
+  pub bits : r ≡ field s (q - heldBits q) (heldBits q)
 
 -- five running numbers, in the order in which their fields come
 abbrev pub five : Five → List ℕ

@@ -6,9 +6,9 @@ use mathlib.Core.List.{List, [], _∷_, _++_, map}
 use mathlib.Core.Logic.{_↔_}
 use lib.ListN.{length, getD}
 use lib.IntN.{pos, negsuc, _+ℤ_}
-use Rattle.bits.specs.Verdict.{accepted, declined, widthLimited, andThen, mapped}
+use Rattle.bits.specs.Verdict.{accepted, declined, widthLimited}
 use Rattle.bits.specs.Field.{field, heldBits}
-use Rattle.bits.specs.Read.{fieldAt, twoAt, bitByBit}
+use Rattle.bits.specs.Read.{fieldAt, twoAt, bitByBit, twoBitByBit, gatheredAt, twoGatheredAt}
 use Rattle.bits.specs.Number.{meaning, Moves, ranOn, steppedTo, widthOf}
 use Rattle.bits.specs.Run.{RunSpells, readRun, summed}
 use Rattle.bits.specs.Put.{free, fieldPut, fieldPutAnswer, wordPut}
@@ -39,12 +39,17 @@ pub record FieldLaws : Type 0 where
 pub record ReadLaws : Type 0 where
   -- one field, and two, give what w bits read one after the other give, and go on where those do; 16 above 32 bits
   pub one : (s : List ℕ) (p w : ℕ) → fieldAt s p w ≡ widthLimited w (bitByBit s p w)
-  pub two : (s : List ℕ) (p w : ℕ)
-      → twoAt s p w
-      ≡ widthLimited w (andThen (bitByBit s p w) (λ u. mapped (λ v. (u .0, v .0, v .1)) (bitByBit s (u .1) w)))
+  pub two : (s : List ℕ) (p w : ℕ) → twoAt s p w ≡ widthLimited w (twoBitByBit s p w)
   -- a field that ends r bits before bit q, taken out of the bits that five bytes hold before it
   pub held : (s : List ℕ) (p w r : ℕ) → w + r ≤ heldBits (p + w + r)
       → field s (p + w + r - heldBits (p + w + r)) (heldBits (p + w + r)) / 2 ^ r % 2 ^ w ≡ field s p w
+
+-- A field gathered from whole bytes, each taken once and at most five for a field, is the number that its bits make one
+-- after the other, and the next place is theirs. For every width: inside the data, at its end and past it, and at its
+-- start, where fewer than five bytes end with the field. Two fields alike.
+pub record FieldGathered (s : List ℕ) (p w : ℕ) : Type 0 where
+  pub one : Bytes s → gatheredAt s p w ≡ widthLimited w (bitByBit s p w)
+  pub two : Bytes s → twoGatheredAt s p w ≡ widthLimited w (twoBitByBit s p w)
 
 -- The width of a field is tested first: the answer is 16 exactly where it is above 32, whatever the data hold, few or
 -- none, and wherever the place is.

@@ -1,10 +1,12 @@
 -- What reading at a place gives: the value and the place after it, or 3, too few bytes or bits; of a field, before
 -- that, 16, a width above 32. And what each answer says.
-use Prim.Native.Nat.{ℕ, zero, suc, _+_, _-_, _*_}
+use Prim.Native.Nat.{ℕ, zero, suc, _+_, _-_, _*_, _/_, _%_, _^_}
+use mathlib.Core.Bool.{cond}
 use mathlib.Core.List.{List}
+use lib.Dec.{leb}
 use lib.ListN.{length}
-use Rattle.bits.specs.Verdict.{Verdict, accepted, declined, within, widthLimited, andThen}
-use Rattle.bits.specs.Field.{bitAt, field, room}
+use Rattle.bits.specs.Verdict.{Verdict, accepted, declined, within, widthLimited, andThen, mapped}
+use Rattle.bits.specs.Field.{bitAt, field, room, gathered}
 use Rattle.bits.specs.declared.bytes.ByteRead.{ByteRead}
 use Rattle.bits.specs.declared.bytes.ByteRead.the-variants as B
 use Rattle.bits.specs.declared.bytes.WordRead.{WordRead}
@@ -35,6 +37,23 @@ bitOn s v = within 1 (room s - v .1) (v .0 * 2 + bitAt s (v .1), v .1 + 1) (decl
 unfoldable pub bitByBit : List ℕ → ℕ → ℕ → Verdict (ℕ × ℕ)
 bitByBit s p zero = accepted (0, p)
 bitByBit s p (suc w) = andThen (bitByBit s p w) (bitOn s)
+
+-- and two fields so, the second from where the first ends
+abbrev pub twoBitByBit : List ℕ → ℕ → ℕ → Verdict (ℕ × ℕ × ℕ)
+twoBitByBit s p w = andThen (bitByBit s p w) (λ u. mapped (λ v. (u .0, v .0, v .1)) (bitByBit s (u .1) w))
+
+-- Reads out of whole bytes, as the code does them: a field out of those that end with it. Of two fields the second so,
+-- and the first out of the same bytes up to 16 bits, above that out of those that end with it.
+abbrev pub gatheredAt : List ℕ → ℕ → ℕ → Verdict (ℕ × ℕ)
+gatheredAt s p w = widthLimited w (within w (room s - p) (gathered s (p + w) % 2 ^ w, p + w) (declined 3))
+
+abbrev pub firstGathered : List ℕ → ℕ → ℕ → ℕ
+firstGathered s p w = cond (leb w 16) (gathered s (p + 2 * w) / 2 ^ w % 2 ^ w) (gathered s (p + w) % 2 ^ w)
+
+abbrev pub twoGatheredAt : List ℕ → ℕ → ℕ → Verdict (ℕ × ℕ × ℕ)
+twoGatheredAt s p w =
+    widthLimited w
+    (within (2 * w) (room s - p) (firstGathered s p w, gathered s (p + 2 * w) % 2 ^ w, p + 2 * w) (declined 3))
 
 -- byte place p, which may be the end
 abbrev pub placeIn : List ℕ → ℕ → Verdict ℕ

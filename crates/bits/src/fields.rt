@@ -11,9 +11,9 @@ pub use runs::fill_run;
 ghost use mathlib.Core.Path.{_≡_};
 ghost use Prim.Native.Nat.{_+_, _-_, _*_, _/_, _%_, _^_, _≤_, _<_};
 ghost use lib.ListN.{length};
-ghost use Rattle.bits.specs.Field.{field, capped, room, heldBits};
+ghost use Rattle.bits.specs.Field.{field, capped, room, wholeBytes};
 ghost use Rattle.bits.specs.Read.{fieldAt, fieldSays, twoAt, twoSays};
-ghost use Rattle.bits.specs.Internal.{Inside};
+ghost use Rattle.bits.specs.Internal.{Inside, BitsBefore};
 
 // A place in a slice, counted in bits from the high bit of byte 0. It may lie past the end.
 pub struct BitCursor {
@@ -73,7 +73,7 @@ fn wide(x: u8) -> u64
 // The first n bytes as a number, big end first.
 fn first_bytes(s: &[u8], n: usize) -> u64
     requires { ⌜ (n ≤ 5) × (n ≤ length (now s)) ⌝ }
-    ensures { λ r. ⌜ r ≡ field (now (s .entry)) 0 (8 * n) ⌝ }
+    ensures { λ r. ⌜ (r ≡ wholeBytes (now (s .entry)) 0 n) × (r ≡ field (now (s .entry)) 0 (8 * n)) ⌝ }
 {
     let mut x: u64 = 0;
     let mut i = 0;
@@ -84,20 +84,20 @@ fn first_bytes(s: &[u8], n: usize) -> u64
     x
 }
 
-// The bits before bit q in the five bytes that end with it: 33 of them or more.
+// The bits before bit q in the last five bytes that they touch: 33 of them or more.
 fn five_before(s: &[u8], q: usize) -> u64
     requires { ⌜ (33 ≤ q) × (q ≤ 8 * length (now s)) ⌝ }
-    ensures { λ r. ⌜ r ≡ field (now (s .entry)) (q - heldBits q) (heldBits q) ⌝ }
+    ensures { λ r. ⌜ BitsBefore (now (s .entry)) q r ⌝ }
 {
     let last = q - 1;
     let end = last / 8 + 1;
     five_of(s[end - 5], s[end - 4], s[end - 3], s[end - 2], s[end - 1]) >> (7 - last % 8)
 }
 
-// The same, or all of them where fewer than five bytes end with bit q.
+// The same, or all of them where they touch fewer than five bytes.
 fn bits_before(s: &[u8], q: usize) -> u64
     requires { ⌜ (1 ≤ q) × (q ≤ 8 * length (now s)) ⌝ }
-    ensures { λ r. ⌜ r ≡ field (now (s .entry)) (q - heldBits q) (heldBits q) ⌝ }
+    ensures { λ r. ⌜ BitsBefore (now (s .entry)) q r ⌝ }
 {
     if 32 < q {
         return five_before(s, q);
@@ -145,7 +145,7 @@ fn one_known(s: &[u8], bit: usize, width: u32) -> u32
     }
 }
 
-// A field that is known to be there, five bytes or more from the start.
+// A field that is known to be there, 33 bits or more from the start.
 fn one_inside(s: &[u8], bit: usize, width: u32) -> u32
     requires { ⌜ Inside (now s) bit width ⌝ }
     requires { ⌜ width ≤ 32 ⌝ }

@@ -204,7 +204,8 @@ pub fn check_run(s: &[u8], run: Run) -> RunCheck
     if run_there(s, run.bit, width, run.count as usize) {
         return check_inside(s, run, width);
     }
-    check_turns(s, run.bit, run.limit, run.count as usize, width, true)
+    // Lent anew: passed on as it is, the slice would be kept in memory on the fast way too, and tiny meshes wait for it.
+    check_turns(&s[..], run.bit, run.limit, run.count as usize, width, true)
 }
 
 // ---- five running numbers, which take turns
@@ -320,7 +321,8 @@ pub fn check_fives(s: &[u8], run: Run) -> RunCheck
     if run_there(s, run.bit, width, count) {
         return check_all_fives(s, run, width);
     }
-    check_turns(s, run.bit, run.limit, count, width, false)
+    // Lent anew, as in `check_run`.
+    check_turns(&s[..], run.bit, run.limit, count, width, false)
 }
 
 // ---- the numbers of runs that were judged before

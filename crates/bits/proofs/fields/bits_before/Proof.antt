@@ -1,7 +1,7 @@
 -- `bits_before` meets its contract, at the front of the slice and after it. Assumes nothing.
 use borrow.Author.Needs.{needs}
 use native.Mathlib.Omega.{arith}
-use Rattle.bits.proofs.ReadLaws.{fewer-is, held-is}
+use Rattle.bits.proofs.ReadLaws.{fewer-gathered}
 use Rattle.bits.proofs.fields.bits_before.Statement.{statement}
 use Rattle.bits.proofs.fields.bits_before.Tie as tie
 
@@ -29,8 +29,7 @@ shr-result c = search needs
 returns-2 : tie.Need-returns-2
 returns-2 c =
     let a = c .before .before .before .args in
-    let f = c .first-bytes in
-    held-is (a .s .now) (a .q) (f .result) _ _ (fewer-is (a .s .now) _ (f .result) (omega arith) (f .ensures)) (omega arith) (omega arith)
+    fewer-gathered (a .s .now) (a .q) (c .first-bytes .result) _ _ (omega arith) (c .first-bytes .ensures) (omega arith) (omega arith)
 
 pub bits-before-spec : {M : Type 1} → statement M
 bits-before-spec =

@@ -1,7 +1,7 @@
 -- `five_before` meets its contract: five whole bytes without the bits after q. Assumes nothing.
 use borrow.Author.Needs.{needs}
 use native.Mathlib.Omega.{arith}
-use Rattle.bits.proofs.ReadLaws.{five-is, held-is}
+use Rattle.bits.proofs.ReadLaws.{five-gathered}
 use Rattle.bits.proofs.fields.five_before.Statement.{statement}
 use Rattle.bits.proofs.fields.five_before.Tie as tie
 
@@ -53,9 +53,7 @@ shr-result c = search needs
 returns : tie.Need-returns
 returns c =
     let a = c .before .before .before .before .before .before .before .args in
-    let f = c .five-of in
-    held-is (a .s .now) (a .q) (f .result) _ _
-    (five-is (a .s .now) _ (f .result) (omega arith) (λ k. c .before .shared-slice-known6 .given k .fits) (f .ensures)) (omega arith) (omega arith)
+    five-gathered (a .s .now) (a .q) (c .five-of .result) _ _ (omega arith) (λ k. c .before .shared-slice-known6 .given k .fits) (c .five-of .ensures) (omega arith) (omega arith)
 
 pub five-before-spec : {M : Type 1} → statement M
 five-before-spec =
