@@ -204,7 +204,7 @@ pub fn check_run(s: &[u8], run: Run) -> RunCheck
     if run_there(s, run.bit, width, run.count as usize) {
         return check_inside(s, run, width);
     }
-    // Lent anew: passed on as it is, the slice would be kept in memory on the fast way too, and tiny meshes wait for it.
+    // Lent anew: passed on as it is, the slice is kept in memory on the fast way too, and tiny meshes wait for that.
     check_turns(&s[..], run.bit, run.limit, run.count as usize, width, true)
 }
 
