@@ -8,6 +8,7 @@ pub mod EquiLaws
 pub mod CbmpLaws
 pub mod SphereLaws
 pub mod CubeLaws
+pub mod FaceCodes
 pub mod ShareProofs
 pub mod CountLaws
 pub mod ViewLaws

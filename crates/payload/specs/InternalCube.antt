@@ -1,19 +1,31 @@
--- What the contracts of the cube map's private functions cite: a cell's numbers by its first corner, the floats of a
--- face, and a
--- point and a row of points made of them. No promise of a public call leans on these.
-use Prim.Native.Nat.{ℕ, _+_}
+-- What the contracts of the cube map's private functions cite: a cell's numbers by its first corner, the codes and the
+-- floats of a face, and a point and a row of points made of them. No promise of a public call leans on these.
+use Prim.Native.Nat.{ℕ, _+_, _*_, _<_}
+use mathlib.Core.Path.{_≡_}
 use mathlib.Core.List.{List, [], _∷_}
-use lib.Ieee.{Float}
+use lib.IntN.{ℤ, pos}
+use lib.ListN.{getD}
+use lib.Ieee.{Float, nan, binary32, ofInt}
+use mir.Syntax.{w8}
+use mir.Val.{toZ, ofZ}
 use Rattle.bits.specs.Float.{bitsOf}
 use Rattle.payload.specs.Fill.{each}
 use Rattle.payload.specs.Float.{f1, f2, _⊕_, _⊖_, _⊗_, ratio}
-use Rattle.payload.specs.Cube.{centre, right, up, u₀, u₁, v₀, v₁}
+use Rattle.payload.specs.Cube.{faceTable, centre, right, up, u₀, u₁, v₀, v₁}
 use Rattle.payload.specs.declared.cube.Axis.{Axis}
 use Rattle.payload.specs.declared.cube.Face.{Face}
 
 -- with a and b = a + 1 in one row, c = a + stride and d = c + 1 in the next: a d c, then a b d
 abbrev pub cellOf : ℕ → ℕ → List ℕ
 cellOf a stride = a ∷ (a + stride + 1) ∷ (a + stride) ∷ a ∷ (a + 1) ∷ (a + stride + 1) ∷ []
+
+-- the float that a cast makes of a code
+abbrev pub floatOf : ℤ → Float
+floatOf z = ofInt binary32 (toZ w8 (ofZ w8 z))
+
+-- nine codes that make the floats of a face
+abbrev pub Makes : List ℤ → ℕ → Type 0
+Makes codes face = (k : ℕ) → k < 9 → floatOf (getD codes k (pos 0)) ≡ getD faceTable (face * 9 + k) nan
 
 abbrev pub axisOf : ℕ → ℕ → Axis
 axisOf face axis = record { centre = centre face axis; right = right face axis; up = up face axis }

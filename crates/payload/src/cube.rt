@@ -15,7 +15,7 @@ ghost use Rattle.payload.specs.Lent.{inItems, answerFor, buffersAfter, a
 ghost use Rattle.payload.specs.Float.{ratio};
 ghost use Rattle.payload.specs.Cube.{cellsUsable, shareUsable, cubeRow, cubeFace, cubeTriangles, cubeNumbers};
 ghost use Rattle.payload.specs.Cube.{pointFace, cubePoints, cubeFloats};
-ghost use Rattle.payload.specs.InternalCube.{cellOf, faceOf, along, between, pointOf, rowOf};
+ghost use Rattle.payload.specs.InternalCube.{cellOf, Makes, faceOf, along, between, pointOf, rowOf};
 
 fn cells_usable(cells: u32) -> bool
     ensures { λ r. ⌜ r ≡ cellsUsable cells ⌝ }
@@ -102,14 +102,15 @@ pub fn cubemap_indices(cells: u32, out: &mut [u16]) -> Filled
 
 // ---- vertices
 
-// For each face the directions of its centre, of image-right and of image-up, three floats each.
-const CUBE_FACES: [[f32; 9]; 6] = [
-    [1.0, 0.0, 0.0, 0.0, 0.0, 1.0, 0.0, 1.0, 0.0],
-    [-1.0, 0.0, 0.0, 0.0, 0.0, -1.0, 0.0, 1.0, 0.0],
-    [0.0, 1.0, 0.0, -1.0, 0.0, 0.0, 0.0, 0.0, -1.0],
-    [0.0, -1.0, 0.0, -1.0, 0.0, 0.0, 0.0, 0.0, 1.0],
-    [0.0, 0.0, -1.0, 1.0, 0.0, 0.0, 0.0, 1.0, 0.0],
-    [0.0, 0.0, 1.0, -1.0, 0.0, 0.0, 0.0, 1.0, 0.0],
+// For each face the directions of its centre, of image-right and of image-up, along x, y and z each: codes of a byte,
+// since a viewer's boot image is short of constant space. `face_of` makes floats of them.
+const CUBE_FACES: [[i8; 9]; 6] = [
+    [1, 0, 0, 0, 0, 1, 0, 1, 0],
+    [-1, 0, 0, 0, 0, -1, 0, 1, 0],
+    [0, 1, 0, -1, 0, 0, 0, 0, -1],
+    [0, -1, 0, -1, 0, 0, 0, 0, 1],
+    [0, 0, -1, 1, 0, 0, 0, 1, 0],
+    [0, 0, 1, -1, 0, 0, 0, 1, 0],
 ];
 
 // What a face has along one axis of space.
@@ -130,29 +131,29 @@ struct Face {
     v1: f32,
 }
 
-// The frame has 3 columns and 2 rows of pictures, of each of which share is cut off on every side. v runs upward.
-fn face_of(face: u32, share: f32) -> Face
-    requires { ⌜ face < 6 ⌝ }
+// The codes are the face's nine. The frame has 3 columns and 2 rows of pictures, of each of which share is cut off on
+// every side. v runs upward.
+fn face_of(codes: [i8; 9], face: u32, share: f32) -> Face
+    requires { ⌜ (face < 6) × Makes codes face ⌝ }
     ensures { λ r. ⌜ r ≡ faceOf face share ⌝ }
 {
-    let f = CUBE_FACES[face as usize];
-    let column = nearest_f32(face % 3);
-    let row = nearest_f32(face / 3);
+    let column = (face % 3) as f32;
+    let row = (face / 3) as f32;
     Face {
         x: Axis {
-            centre: f[0],
-            right: f[3],
-            up: f[6],
+            centre: codes[0] as f32,
+            right: codes[3] as f32,
+            up: codes[6] as f32,
         },
         y: Axis {
-            centre: f[1],
-            right: f[4],
-            up: f[7],
+            centre: codes[1] as f32,
+            right: codes[4] as f32,
+            up: codes[7] as f32,
         },
         z: Axis {
-            centre: f[2],
-            right: f[5],
-            up: f[8],
+            centre: codes[2] as f32,
+            right: codes[5] as f32,
+            up: codes[8] as f32,
         },
         u0: (column + share) / 3.0,
         u1: (column + 1.0 - share) / 3.0,
@@ -214,12 +215,21 @@ fn point_row(cells: u32, radius: f32, face: Face, y: u32, at: usize, out: &mut [
     to
 }
 
-fn point_face(cells: u32, radius: f32, share: f32, face: u32, at: usize, out: &mut [u32]) -> usize
-    requires { ⌜ (cells ≤ 103) × (face < 6) × (at + length (pointFace cells radius share face) ≤ length (now out)) ⌝ }
+fn point_face(
+    cells: u32,
+    radius: f32,
+    share: f32,
+    codes: [i8; 9],
+    face: u32,
+    at: usize,
+    out: &mut [u32],
+) -> usize
+    requires { ⌜ (cells ≤ 103) × (face < 6) × Makes codes face
+        × (at + length (pointFace cells radius share face) ≤ length (now out)) ⌝ }
     ensures place { λ r. ⌜ r ≡ at + length (pointFace cells radius share face) ⌝ }
     ensures floats { λ _. ⌜ now (out .exit) ≡ sets (now (out .entry)) at (pointFace cells radius share face) ⌝ }
 {
-    let f = face_of(face, share);
+    let f = face_of(codes, face, share);
     let n = cells + 1;
     let mut to = at;
     let mut y: u32 = 0;
@@ -234,10 +244,12 @@ fn point_cube(cells: u32, radius: f32, share: f32, out: &mut [u32])
     requires { ⌜ (cells ≤ 103) × (length (cubePoints cells radius share) ≤ length (now out)) ⌝ }
     ensures { λ _. ⌜ now (out .exit) ≡ sets (now (out .entry)) 0 (cubePoints cells radius share) ⌝ }
 {
+    // taken once: taken for each face it would be laid out anew each time, which costs a small cube a sixth of its time
+    let faces = CUBE_FACES;
     let mut to: usize = 0;
     let mut face: u32 = 0;
     while face < 6 {
-        to = point_face(cells, radius, share, face, to, out);
+        to = point_face(cells, radius, share, faces[face as usize], face, to, out);
         face += 1;
     }
 }

@@ -1,109 +1,128 @@
--- `face_of` meets its contract: the source's table, row by row, is that of the definitions. Assumes nothing.
-use mathlib.Core.Path.{_≡_, refl}
-use mathlib.Core.List.{List, [], _∷_}
-use Prim.Native.Nat.{ℕ, zero, suc, _+_, _<_}
+-- `face_of` meets its contract: the codes make the face's floats. Assumes nothing.
+use Prim.Native.Nat.{ℕ, _+_, _*_, _<_}
+use mathlib.Core.Path.{_≡_, refl, ap, _∙_}
+use mathlib.Core.List.{List}
 use native.Mathlib.Omega.{arith}
+use lib.IntN.{ℤ, pos}
 use lib.ListN.{getD}
-use lib.Ieee.{Float, nan}
+use lib.Ieee.{nan}
 use borrow.Author.Needs.{needs}
-use Rattle.payload.specs.Float.{f0, f1, f2, f3, _⊕_, _⊖_, _⊘_}
+use Rattle.payload.specs.Cube.{faceTable}
+use Rattle.payload.specs.InternalCube.{floatOf, Makes, axisOf, faceOf}
 use Rattle.payload.specs.declared.cube.Axis.{Axis}
-use Rattle.payload.specs.declared.cube.Face.{Face}
-use Rattle.payload.specs.Cube.{f-1, faceTable}
-use Rattle.payload.specs.InternalCube.{axisOf, faceOf}
+use Rattle.payload.proofs.CubeLaws.{in-float}
 use Rattle.payload.proofs.cube.face_of.Statement.{statement}
 use Rattle.payload.proofs.cube.face_of.Tie as tie
+use Rattle.payload.proofs.cube.face_of.Reads as reads
+use Rattle.payload.proofs.cube.face_of.Lts as lts
 
--- the table of the source
-abbrev rows : List (List Float)
-rows =
-    (f1 ∷ f0 ∷ f0 ∷ f0 ∷ f0 ∷ f1 ∷ f0 ∷ f1 ∷ f0 ∷ [])
-    ∷ (f-1 ∷ f0 ∷ f0 ∷ f0 ∷ f0 ∷ f-1 ∷ f0 ∷ f1 ∷ f0 ∷ [])
-    ∷ (f0 ∷ f1 ∷ f0 ∷ f-1 ∷ f0 ∷ f0 ∷ f0 ∷ f0 ∷ f-1 ∷ [])
-    ∷ (f0 ∷ f-1 ∷ f0 ∷ f-1 ∷ f0 ∷ f0 ∷ f0 ∷ f0 ∷ f1 ∷ [])
-    ∷ (f0 ∷ f0 ∷ f-1 ∷ f1 ∷ f0 ∷ f0 ∷ f0 ∷ f1 ∷ f0 ∷ [])
-    ∷ (f0 ∷ f0 ∷ f1 ∷ f-1 ∷ f0 ∷ f0 ∷ f0 ∷ f1 ∷ f0 ∷ []) ∷ []
+module _ (codes : List ℤ) (face : ℕ) (makes : Makes codes face) (axis : ℕ) (low : axis < 3) where
+  code : (k j : ℕ) → k < 9 → face * 9 + k ≡ j → floatOf (getD codes k (pos 0)) ≡ getD faceTable j nan
+  code k j h e = makes k h ∙ ap (λ (n : ℕ). getD faceTable n nan) e
 
-abbrev axisIn : List Float → ℕ → Axis
-axisIn r axis = record { centre = getD r axis nan; right = getD r (3 + axis) nan; up = getD r (6 + axis) nan }
+  axis-made : _≡_ {A = Axis}
+      (record {
+        centre = floatOf (getD codes axis (pos 0));
+        right = floatOf (getD codes (axis + 3) (pos 0));
+        up = floatOf (getD codes (axis + 6) (pos 0));
+      })
+      (axisOf face axis)
+  axis-made =
+      let p = code axis (face * 9 + axis) (omega arith) refl in
+      let q = code (axis + 3) (face * 9 + 3 + axis) (omega arith) (omega arith) in
+      let r = code (axis + 6) (face * 9 + 6 + axis) (omega arith) (omega arith) in
+      rw (p, q, r)
 
-axes : (face : ℕ) → face < 6 → (axisIn (getD rows face []) 0 ≡ axisOf face 0) × (axisIn (getD rows face []) 1 ≡ axisOf face 1) × (axisIn (getD rows face []) 2 ≡ axisOf face 2)
-unfolding faceTable
-axes zero h = (refl, refl, refl)
-axes (suc zero) h = (refl, refl, refl)
-axes (suc (suc zero)) h = (refl, refl, refl)
-axes (suc (suc (suc zero))) h = (refl, refl, refl)
-axes (suc (suc (suc (suc zero)))) h = (refl, refl, refl)
-axes (suc (suc (suc (suc (suc zero))))) h = (refl, refl, refl)
-axes (suc (suc (suc (suc (suc (suc n)))))) h = absurd (omega arith)
+int-to-float-column : tie.Need-int-to-float-column
+int-to-float-column c = in-float _ (omega arith)
 
-made : {x x' y y' z z' : Axis} {p p' q q' : Float} (share : Float) → x ≡ x' → y ≡ y' → z ≡ z' → p ≡ p' → q ≡ q'
-    → _≡_ {A = Face}
-    (record { x = x; y = y; z = z; u0 = (p ⊕ share) ⊘ f3; u1 = (p ⊕ f1 ⊖ share) ⊘ f3; v0 = (f2 ⊖ q ⊖ f1 ⊕ share) ⊘ f2; v1 = (f2 ⊖ q ⊖ share) ⊘ f2 })
-    (record { x = x'; y = y'; z = z'; u0 = (p' ⊕ share) ⊘ f3; u1 = (p' ⊕ f1 ⊖ share) ⊘ f3; v0 = (f2 ⊖ q' ⊖ f1 ⊕ share) ⊘ f2; v1 = (f2 ⊖ q' ⊖ share) ⊘ f2 })
-made share a b c d e = cc
+int-to-float-row : tie.Need-int-to-float-row
+int-to-float-row c = in-float _ (omega arith)
 
-mul-f : tie.Need-mul-f
-mul-f c = search needs
+array-copy-out-t10 : tie.Need-array-copy-out-t10
+array-copy-out-t10 c = search needs
 
-array-copy-out-f : tie.Need-array-copy-out-f
-array-copy-out-f c = search needs
+int-to-float-t11 : tie.Need-int-to-float-t11
+int-to-float-t11 c = search needs
 
-nearest-f32-requires : tie.Need-nearest-f32-requires
-nearest-f32-requires c κs = search needs
+array-copy-out-t14 : tie.Need-array-copy-out-t14
+array-copy-out-t14 c = search needs
 
-nearest-f32-requires-2 : tie.Need-nearest-f32-requires-2
-nearest-f32-requires-2 c κs = search needs
+int-to-float-t15 : tie.Need-int-to-float-t15
+int-to-float-t15 c = search needs
 
-array-read-t21 : tie.Need-array-read-t21
-array-read-t21 c = search needs
+array-copy-out-t18 : tie.Need-array-copy-out-t18
+array-copy-out-t18 c = search needs
 
-array-read-t24 : tie.Need-array-read-t24
-array-read-t24 c = search needs
+int-to-float-t19 : tie.Need-int-to-float-t19
+int-to-float-t19 c = search needs
 
-array-read-t27 : tie.Need-array-read-t27
-array-read-t27 c = search needs
+array-copy-out-t23 : tie.Need-array-copy-out-t23
+array-copy-out-t23 c = search needs
 
-array-read-t31 : tie.Need-array-read-t31
-array-read-t31 c = search needs
+int-to-float-t24 : tie.Need-int-to-float-t24
+int-to-float-t24 c = search needs
 
-array-read-t34 : tie.Need-array-read-t34
-array-read-t34 c = search needs
+array-copy-out-t27 : tie.Need-array-copy-out-t27
+array-copy-out-t27 c = search needs
 
-array-read-t37 : tie.Need-array-read-t37
-array-read-t37 c = search needs
+int-to-float-t28 : tie.Need-int-to-float-t28
+int-to-float-t28 c = search needs
 
-array-read-t41 : tie.Need-array-read-t41
-array-read-t41 c = search needs
+array-copy-out-t31 : tie.Need-array-copy-out-t31
+array-copy-out-t31 c = search needs
 
-array-read-t44 : tie.Need-array-read-t44
-array-read-t44 c = search needs
+int-to-float-t32 : tie.Need-int-to-float-t32
+int-to-float-t32 c = search needs
 
-array-read-t47 : tie.Need-array-read-t47
-array-read-t47 c = search needs
+array-copy-out-t36 : tie.Need-array-copy-out-t36
+array-copy-out-t36 c = search needs
+
+int-to-float-t37 : tie.Need-int-to-float-t37
+int-to-float-t37 c = search needs
+
+array-copy-out-t40 : tie.Need-array-copy-out-t40
+array-copy-out-t40 c = search needs
+
+int-to-float-t41 : tie.Need-int-to-float-t41
+int-to-float-t41 c = search needs
+
+array-copy-out-t44 : tie.Need-array-copy-out-t44
+array-copy-out-t44 c = search needs
+
+int-to-float-t45 : tie.Need-int-to-float-t45
+int-to-float-t45 c = search needs
 
 returns : tie.Need-returns
 unfolding faceOf
 returns c =
-    let a = c .before .before .before .args in
-    let r = axes (a .face) (omega arith) in
-    made (a .share) (r .0) (r .1) (r .2) (c .before .nearest-f32 .ensures) (c .nearest-f322 .ensures)
+    let d = c .before .before .before .before .before .before .before .before .before .before in
+    let e = d .before .before .before .before .before .before .before .before .before .before in
+    let made = axis-made (lts.dens reads.Pre reads.Post (e .args) .0) (e .args .face) (e .pre .1) in
+    rw (made 0 (omega arith), made 1 (omega arith), made 2 (omega arith))
 
 pub face-of-spec : {M : Type 1} → statement M
 face-of-spec =
     tie.close
     (tie.spec
-    mul-f
-    array-copy-out-f
-    nearest-f32-requires
-    nearest-f32-requires-2
-    array-read-t21
-    array-read-t24
-    array-read-t27
-    array-read-t31
-    array-read-t34
-    array-read-t37
-    array-read-t41
-    array-read-t44
-    array-read-t47
+    int-to-float-column
+    int-to-float-row
+    array-copy-out-t10
+    int-to-float-t11
+    array-copy-out-t14
+    int-to-float-t15
+    array-copy-out-t18
+    int-to-float-t19
+    array-copy-out-t23
+    int-to-float-t24
+    array-copy-out-t27
+    int-to-float-t28
+    array-copy-out-t31
+    int-to-float-t32
+    array-copy-out-t36
+    int-to-float-t37
+    array-copy-out-t40
+    int-to-float-t41
+    array-copy-out-t44
+    int-to-float-t45
     returns)

@@ -33,7 +33,7 @@ point-row-requires c κs =
     let a = c .before .before .before .before .before .args in
     let z = c .before .before in
     let e = row-of _ (a .cells) (a .radius) (a .share) (a .face) (z .loop .y) (z .before .face-of .ensures) in
-    (omega arith, omega arith, rw e (filling-room (z .loop .inv) (omega arith) (c .before .before .before .before .before .pre .2)))
+    (omega arith, omega arith, rw e (filling-room (z .loop .inv) (omega arith) (c .before .before .before .before .before .pre .3)))
 
 add-y : tie.Need-add-y Inv-loop μ-loop
 add-y c = search needs
