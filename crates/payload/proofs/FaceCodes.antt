@@ -6,7 +6,7 @@ use mathlib.Core.Bool.{Bool, true, _&&_}
 use native.Mathlib.Omega.{arith}
 use lib.Dec.{eqb}
 use lib.IntN.{ℤ, pos}
-use lib.ListN.{length, getD, List·getD-append}
+use lib.ListN.{length, getD, length-map, List·getD-append}
 use lib.Seq.{getD-append-add}
 use lib.Ieee.{Float, nan}
 use borrow.Author.Tests.{eqb-true}
@@ -24,10 +24,6 @@ abbrev pub nines : List (List ℤ) → Bool
 nines [] = true
 nines (face ∷ l) = eqb (length face) 9 && nines l
 
-length-map : (l : List ℤ) → length (map floatOf l) ≡ length l
-length-map [] = refl
-length-map (z ∷ l) = ap suc (length-map l)
-
 getD-map : (l : List ℤ) (k : ℕ) → k < length l → getD (map floatOf l) k nan ≡ floatOf (getD l k (pos 0))
 getD-map [] k h = absurd (omega arith)
 getD-map (z ∷ l) zero h = refl
@@ -39,14 +35,14 @@ made : (l : List (List ℤ)) (face k : ℕ) → nines l ≡ true → face < leng
 made [] face k e h i = absurd (omega arith)
 made (f ∷ l) zero k e h i =
     let n = eqb-true (length f) 9 (both-true (eqb (length f) 9) (nines l) e .0) in
-    let m : k < length (map floatOf f) = omega (arith, n, length-map f) in
+    let m : k < length (map floatOf f) = omega (arith, n, length-map f floatOf) in
     let z : zero * 9 + k ≡ k = omega arith in
     sym (getD-map f k (omega (arith, n))) ∙ sym (List·getD-append (map floatOf f) (floats l) nan k m)
     ∙ ap (λ (j : ℕ). getD (map floatOf f ++ floats l) j nan) (sym z)
 made (f ∷ l) (suc face) k e h i =
     let t = both-true (eqb (length f) 9) (nines l) e in
     let n = eqb-true (length f) 9 (t .0) in
-    let j : length (map floatOf f) + (face * 9 + k) ≡ suc face * 9 + k = omega (arith, n, length-map f) in
+    let j : length (map floatOf f) + (face * 9 + k) ≡ suc face * 9 + k = omega (arith, n, length-map f floatOf) in
     made l face k (t .1) (omega arith) i ∙ sym (getD-append-add (map floatOf f) (floats l) (face * 9 + k) nan)
     ∙ ap (λ (j : ℕ). getD (map floatOf f ++ floats l) j nan) j
 

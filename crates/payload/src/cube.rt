@@ -244,7 +244,7 @@ fn point_cube(cells: u32, radius: f32, share: f32, out: &mut [u32])
     requires { ⌜ (cells ≤ 103) × (length (cubePoints cells radius share) ≤ length (now out)) ⌝ }
     ensures { λ _. ⌜ now (out .exit) ≡ sets (now (out .entry)) 0 (cubePoints cells radius share) ⌝ }
 {
-    // taken once: taken for each face it would be laid out anew each time, which costs a small cube a sixth of its time
+    // taken once: taken for each face it would be laid out anew, and a cube of one cell take a sixth longer
     let faces = CUBE_FACES;
     let mut to: usize = 0;
     let mut face: u32 = 0;
