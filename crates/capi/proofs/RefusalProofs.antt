@@ -12,6 +12,7 @@ use Rattle.bits.proofs.RefusalLaws.{within-refuses, unlisted}
 use Rattle.bits.proofs.Theorems as bit
 use Rattle.payload.proofs.Theorems as pay
 use Rattle.scene.proofs.RefusalProofs as draw
+use Rattle.display.proofs.RefusalProofs as show
 use Rattle.capi.specs.Answer.{codeOf, numbered, truth}
 use Rattle.capi.specs.Total.{plus, totalAt}
 use Rattle.capi.specs.Refusals.{NeverInC, NeverSixteen, SumWidth}
@@ -52,6 +53,7 @@ never-sixteen =
       of-bits = bit.map-calls never-in-c never-in-c bit.never-sixteen;
       of-payload = pay.map-calls never-in-c never-in-c pay.never-sixteen;
       of-scene = λ c words e. draw.never-sixteen c (crossed _ words e);
+      of-display = record { triangles = λ records buffers words e. show.never-sixteen .triangles records buffers (crossed _ words e) };
       run-on = λ limit last f e. bit.never-sixteen .run-on limit last f (numbered-sixteen _ e);
       value = not-value;
       number = λ n e. clash (cc);

@@ -12,6 +12,7 @@ use Rattle.bits.specs.Number.{ranOn}
 use Rattle.bits.specs.Refusals.{Claim, NotMinus}
 use Rattle.bits.specs.Refusals as bit
 use Rattle.payload.specs.Refusals as pay
+use Rattle.display.specs.Refusals as show
 use Rattle.scene.specs.Scene.{Call, sceneAnswer}
 use Rattle.capi.specs.Answer.{codeOf, numbered, truth}
 use Rattle.capi.specs.Total.{totalOf}
@@ -21,10 +22,11 @@ abbrev pub NeverInC : ℕ → Claim
 NeverInC k A ks v = (words : A → List ℕ) → NotMinus k (codeOf (mapped words v))
 
 pub record NeverSixteen : Type 0 where
-  -- the functions of the calls of `bits`, `payload` and `scene`
+  -- the functions of the calls of `bits`, `payload`, `scene` and `display`
   pub of-bits : bit.EachCall (NeverInC 16) (NeverInC 16)
   pub of-payload : pay.EachCall (NeverInC 16) (NeverInC 16)
   pub of-scene : (c : Call) → NeverInC 16 _ [] (sceneAnswer c)
+  pub of-display : show.EachCall (NeverInC 16)
   -- `capi_run_on`, which answers the number itself
   pub run-on : (limit last f : ℕ) → NotMinus 16 (numbered (ranOn limit last f))
   -- and those that refuse nothing: they answer a count of words, a number, or yes or no

@@ -1,4 +1,4 @@
-// The C interface: every public call of `bits`, `payload` and `scene` as a C function on numbers and slices.
+// The C interface: every public call of `bits`, `payload`, `scene` and `display` as a C function on numbers and slices.
 //
 // A slice crosses as a pointer and the count of its items. A float in a buffer, among the words or as an answer is its
 // bits. A call answers an i64. One that is lent a slice of words answers
@@ -29,6 +29,7 @@ pub mod grids;
 pub mod meshes;
 pub mod numbers;
 pub mod put;
+pub mod records;
 pub mod runs;
 pub mod scene_call;
 pub mod view;

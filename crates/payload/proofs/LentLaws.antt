@@ -12,14 +12,10 @@ use lib.Seq.{sets, sets-eq}
 use borrow.Author.Tests.{le-leb, lt-leb, leb-true}
 use Rattle.bits.specs.Verdict.{Verdict, accepted, needs, declined, mapped}
 use Rattle.bits.specs.Refusals.{Refuses, gives, refuses, RefusesOr12, listed, asks}
-use Rattle.bits.proofs.VerdictLaws.{clash}
+use Rattle.bits.proofs.VerdictLaws.{clash, both-true}
 use Rattle.payload.specs.Lent.{Plan, allFit, _onto_, allOnto, answerFor, buffersAfter, inItems}
 
 -- ---- buffers, and lists that they are long enough for
-
-both : (a b : Bool) → (a && b) ≡ true → (a ≡ true) × (b ≡ true)
-both true b e = (refl, e)
-both false b e = clash (cc)
 
 -- each of some lengths is at most its buffer's, tested after t
 abbrev tested : Bool → List ℕ → List (List ℕ) → Bool
@@ -64,7 +60,7 @@ fit-room : (lists buffers : List (List ℕ)) → allFit lists buffers ≡ true �
 fit-room [] buffers h = tt
 fit-room (l ∷ lists) [] h = clash (cc)
 fit-room (l ∷ lists) (b ∷ buffers) h =
-    let t = both (leb (length l) (length b)) (allFit lists buffers) h in
+    let t = both-true (leb (length l) (length b)) (allFit lists buffers) h in
     (leb-true (length l) (length b) (t .0), fit-room lists buffers (t .1))
 
 -- each list stored from place 0 on
@@ -81,7 +77,7 @@ stored-onto : (lists buffers : List (List ℕ)) → allFit lists buffers ≡ tru
 stored-onto [] buffers h = refl
 stored-onto (l ∷ lists) [] h = refl
 stored-onto (l ∷ lists) (b ∷ buffers) h =
-    let t = both (leb (length l) (length b)) (allFit lists buffers) h in
+    let t = both-true (leb (length l) (length b)) (allFit lists buffers) h in
     ap₂ _∷_ (sets-onto l b (leb-true (length l) (length b) (t .0))) (stored-onto lists buffers (t .1))
 
 -- ---- the three ways

@@ -1,5 +1,6 @@
 -- The laws of the definitions in specs/, which the functions' proofs and the crates above cite.
 pub mod FillLaws
+pub mod AllLaws
 pub mod LentLaws
 pub mod PayloadLaws
 pub mod WordLaws

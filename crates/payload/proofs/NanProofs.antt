@@ -3,7 +3,7 @@
 use mathlib.Core.Path.{_≡_, refl, sym, ap, _∙_}
 use mathlib.Core.Logic.{_⊎_, inl, inr}
 use mathlib.Core.Bool.{Bool, true, false, not, _&&_, _||_, cond, false≢true}
-use mathlib.Core.List.{List, [], _∷_, List·Memᴰ, List·Memᴰ·not-nil, List·Memᴰ·cases-cons, List·Memᴰ·append-cases}
+use mathlib.Core.List.{List}
 use Prim.Native.Nat.{ℕ, zero, suc, _+_, _*_, _/_, _%_, _≤_, _<_}
 use native.Mathlib.Nat.{eq-or-lt-of-le, mul-comm}
 use native.Mathlib.Omega.{arith}
@@ -15,7 +15,7 @@ use lib.Ieee.Scale.{finite}
 use borrow.Author.Tests.{leb-true, eqb-true}
 use Rattle.bits.specs.Verdict.{accepted, declined}
 use Rattle.bits.specs.Float.{bitsOf}
-use Rattle.bits.proofs.VerdictLaws.{tested-value}
+use Rattle.bits.proofs.VerdictLaws.{both-true, tested-value}
 use Rattle.payload.specs.Fill.{each}
 use Rattle.payload.specs.Float.{f0, f½, f1, f2, f3, ratio, _⊕_, _⊖_, _⊗_, _⊘_}
 use Rattle.payload.specs.Sphere.{gridUsable, gridUv, uvRow, gridUvs, sphereUvs}
@@ -28,36 +28,7 @@ use Rattle.payload.proofs.FloatLaws.{Upto, upto, upto-within, upto-ge, 
 use Rattle.payload.proofs.FloatLaws.{add-within, sub-within, mul-within, div-within, whole-within, half-within}
 use Rattle.payload.proofs.FloatLaws.{from-one, to-one, mul-upto, ratio-upto, scaled-upto}
 use Rattle.payload.proofs.FloatLaws.{mul-number, mul-finite, div-number, ratio-nan}
-
--- ---- the elements of a list made piece by piece
-
--- all elements are such
-abbrev pub All : (ℕ → Type 0) → List ℕ → Type 0
-All P l = (b : ℕ) → List·Memᴰ b l → P b
-
-module _ (P : ℕ → Type 0) where
-  nil-all : All P []
-  nil-all b m = absurd (List·Memᴰ·not-nil m)
-
-  cons-all : {x : ℕ} {l : List ℕ} → P x → All P l → All P (x ∷ l)
-  cons-all {x} {l} p h b m = go (List·Memᴰ·cases-cons m)
-    where
-      go : (b ≡ x) ⊎ List·Memᴰ b l → P b
-      go (inl e) = rw e p
-      go (inr k) = h b k
-
-  each-all : (f : ℕ → List ℕ) (n : ℕ) → ((j : ℕ) → j < n → All P (f j)) → All P (each f n)
-  unfolding each
-  each-all f zero h b m = absurd (List·Memᴰ·not-nil m)
-  each-all f (suc n) h b m = go (each-all f n (λ j l. h j (omega arith)) b) (List·Memᴰ·append-cases (each f n) m)
-    where
-      go : (List·Memᴰ b (each f n) → P b) → List·Memᴰ b (each f n) ⊎ List·Memᴰ b (f n) → P b
-      go r (inl k) = r k
-      go r (inr k) = h n (omega arith) b k
-
-and-true : (a b : Bool) → (a && b) ≡ true → (a ≡ true) × (b ≡ true)
-and-true true b e = (refl, e)
-and-true false b e = absurd (false≢true e)
+use Rattle.payload.proofs.AllLaws.{All, nil-all, cons-all, each-all}
 
 -- ---- the bit pattern of a float that is no NaN
 
@@ -80,8 +51,8 @@ between x h f =
 pub grid-between : (rings sectors : ℕ) → gridUsable rings sectors ≡ true → All Between (gridUvs rings sectors)
 unfolding gridUsable gridUvs uvRow
 grid-between rings sectors e =
-    let u = and-true (leb 2 rings && leb 3 sectors) (leb ((rings + 1) * (sectors + 1)) 65536) e in
-    let v = and-true (leb 2 rings) (leb 3 sectors) (u .0) in
+    let u = both-true (leb 2 rings && leb 3 sectors) (leb ((rings + 1) * (sectors + 1)) 65536) e in
+    let v = both-true (leb 2 rings) (leb 3 sectors) (u .0) in
     let r = leb-true 2 rings (v .0) in
     let s = leb-true 3 sectors (v .1) in
     let p = leb-true ((rings + 1) * (sectors + 1)) 65536 (u .1) in
@@ -106,7 +77,7 @@ all-below f (suc n) = all-below f n && f n
 
 all-at : (f : ℕ → Bool) (n : ℕ) → all-below f n ≡ true → (j : ℕ) → j < n → f j ≡ true
 all-at f zero e j h = absurd (omega arith)
-all-at f (suc n) e j h = let t = and-true (all-below f n) (f n) e in go (t .1) (all-at f n (t .0) j) (eq-or-lt-of-le h)
+all-at f (suc n) e j h = let t = both-true (all-below f n) (f n) e in go (t .1) (all-at f n (t .0) j) (eq-or-lt-of-le h)
   where
     go : f n ≡ true → (j < n → f j ≡ true) → (suc j ≡ suc n) ⊎ (suc j < suc n) → f j ≡ true
     go t r (inl k) = let i : j ≡ n = omega arith in rw i t
@@ -193,10 +164,10 @@ pub cube-places : (cells : ℕ) (radius share : Float) → cellsUsable cells ≡
     → shareUsable share ≡ true → All (Place radius) (cubePoints cells radius share)
 unfolding cellsUsable shareUsable cubePoint pointRow pointFace cubePoints
 cube-places cells radius share ec er es =
-    let c = and-true (leb 1 cells) (leb cells 103) ec in
+    let c = both-true (leb 1 cells) (leb cells 103) ec in
     let low = leb-true 1 cells (c .0) in
     let high = leb-true cells 103 (c .1) in
-    let p = and-true (le f0 share) (lt share f½) es in
+    let p = both-true (le f0 share) (lt share f½) es in
     let small = half-within share (rw (p .0) tt) (rw (p .1) tt) in
     let P = Place radius in
     each-all P (pointFace cells radius share) 6 (λ face f.
@@ -253,7 +224,7 @@ points-accepted cells radius share l e =
     let v = accepted (cubePoints cells radius share) in
     let a = tested-value (cellsUsable cells) (cond (finite radius && shareUsable share) v (declined 11)) 9 l e in
     let b = tested-value (finite radius && shareUsable share) v 11 l (a .1) in
-    let c = and-true (finite radius) (shareUsable share) (b .0) in
+    let c = both-true (finite radius) (shareUsable share) (b .0) in
     let d = b .1 in
     (a .0, c .0, c .1, cc)
 

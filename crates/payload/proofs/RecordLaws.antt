@@ -11,6 +11,7 @@ use Rattle.payload.specs.Mesh.{Submesh, Mesh}
 use Rattle.payload.specs.MeshSpells.{meshType}
 use Rattle.payload.specs.MeshRead.{readMeshes, readFrom}
 use Rattle.payload.specs.MeshDrawing.{submeshRecords, pointCount, recordsFrom, drawnRecords, pointTotal}
+use Rattle.payload.specs.Records.{recordsIn, pointSum}
 use Rattle.payload.specs.Internal.{WasRead, valueOr, submeshesOf, Taken, meshRead, boxRead, meshesFrom, RecordRoom, afterRecords}
 use Rattle.payload.specs.declared.mesh.head.Head.{Head}
 use Rattle.payload.specs.declared.mesh.submeshes.Submeshes.{Submeshes}
@@ -144,3 +145,18 @@ module _ {s rec₀ rec : List ℕ} {at : ℕ} {to : RecordPlace} (L : RecordsLef
           room = record { records = omega (arith, L .room .records, records-sum); meshes = omega (arith, L .room .meshes, meshes-sum); points = omega (arith, L .room .points, points-sum) };
           long = a ∙ L .long;
         })
+
+-- ---- the words read as records again
+
+submeshes-sum : (number first : ℕ) (l : List Submesh) (words : List ℕ)
+    → pointSum (recordsIn (submeshRecords number first l ++ words)) ≡ pointCount l + pointSum (recordsIn words)
+unfolding submeshRecords recordsIn
+submeshes-sum number first [] words = omega arith
+submeshes-sum number first (x ∷ l) words = omega (arith, submeshes-sum number (first + length (x .points)) l words)
+
+pub drawn-sum : (number first : ℕ) (l : List Mesh) → pointSum (recordsIn (recordsFrom number first l)) ≡ pointTotal l
+unfolding recordsFrom recordsIn
+drawn-sum number first [] = refl
+drawn-sum number first (x ∷ l) =
+    submeshes-sum number first (x .submeshes) (recordsFrom (number + 1) (first + pointCount (x .submeshes)) l)
+    ∙ ap (λ (n : ℕ). pointCount (x .submeshes) + n) (drawn-sum (number + 1) (first + pointCount (x .submeshes)) l)

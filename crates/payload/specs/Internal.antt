@@ -18,7 +18,6 @@ use Rattle.payload.specs.declared.mesh.head.Head.{Head}
 use Rattle.payload.specs.declared.mesh.draw.DrawPlace.{DrawPlace}
 use Rattle.payload.specs.declared.mesh.submeshes.Submeshes.{Submeshes}
 use Rattle.payload.specs.declared.mesh.submeshes.NextSubmesh.{NextSubmesh}
-use Rattle.payload.specs.declared.mesh.records.Record.{Record}
 use Rattle.payload.specs.declared.mesh.records.RecordPlace.{RecordPlace}
 use Rattle.payload.specs.declared.mesh.measure.SubmeshEnd.{SubmeshEnd}
 use Rattle.payload.specs.declared.mesh.measure.SubmeshEnd.the-variants as E
@@ -280,9 +279,6 @@ pub record FillRoom (l : List Mesh) (to : DrawPlace) (n f : ℕ) : Type 0 where
 abbrev pub afterMeshes : DrawPlace → List Mesh → DrawPlace
 afterMeshes to l =
     record { numbers = to .numbers + length (drawnNumbers l); floats = to .floats + length (drawnFloats l) }
-
-abbrev pub recordWords : Record → List ℕ
-recordWords r = r .mesh ∷ r .texture ∷ r .mode ∷ r .first ∷ r .points ∷ []
 
 -- the records of some meshes fit into a buffer of n elements, and their numbers into words
 pub record RecordRoom (l : List Mesh) (to : RecordPlace) (n : ℕ) : Type 0 where

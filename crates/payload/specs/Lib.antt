@@ -23,6 +23,7 @@ pub mod Mesh
 pub mod MeshSpells
 pub mod MeshRead
 pub mod MeshDrawing
+pub mod Records
 pub mod Meshes
 pub mod Tables
 pub mod Internal

@@ -42,6 +42,7 @@ pub use mesh::Measured;
 pub use mesh::MeshListSize;
 pub use mesh::MeshMeasured;
 pub use mesh::MeshesAnswer;
+pub use mesh::Record;
 pub use mesh::RecordsAnswer;
 pub use mesh::TableLengths;
 pub use mesh::TablesAnswer;

@@ -20,6 +20,7 @@ pub use measure::MeshMeasured;
 pub use measure::TableLengths;
 pub use measure::measure_mesh;
 pub use measure::measure_meshes;
+pub use records::Record;
 pub use records::RecordsAnswer;
 pub use records::mesh_records;
 pub use tables::TablesAnswer;

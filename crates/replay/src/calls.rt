@@ -12,6 +12,7 @@ mod grids;
 mod meshes;
 mod numbers;
 mod put;
+mod records;
 mod runs;
 mod scene_call;
 mod unpack;
@@ -27,7 +28,7 @@ pub enum Outcome {
 }
 
 // The numbers of the calls are below this. 0 is that of a line that cannot be read.
-pub const CALLS: usize = 62;
+pub const CALLS: usize = 63;
 
 // The words that are lent, as they are before a call.
 const WORDS: [u64; 8] = [0xa5a5_a5a5_a5a5_a5a5; 8];
@@ -232,6 +233,7 @@ pub fn call(call: usize, args: &[u64; 10], data: &[u8]) -> Outcome {
         0x21 => lend_drawing(call, args, data, args[0], args[1], args[2]),
         0x25 => lend_drawing(call, args, data, args[6], args[7], args[8]),
         0x23 | 0x24 => meshes::mesh_body(call, args, data),
+        0x3e => records::lend_triangles(data, args[0], args[1]),
         0x0c | 0x0e..=0x12 | 0x15 | 0x1f | 0x2a | 0x2b | 0x2d | 0x2f | 0x30 | 0x32 | 0x33 => {
             answer_unlent(call, args, data)
         }

@@ -13,6 +13,7 @@ mod random;
 mod readers;
 mod scene;
 mod timing;
+mod triangles;
 mod writer;
 
 use std::process::ExitCode;
@@ -37,6 +38,7 @@ fn run(words: &[&str]) -> Result<(), String> {
             readers::table,
             writer::table,
             scene::table,
+            triangles::table,
         ]
         .iter()
         .try_for_each(|table| table()),

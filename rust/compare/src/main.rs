@@ -7,6 +7,7 @@
 mod answers;
 mod bits;
 mod crops;
+mod display;
 mod grids;
 mod inputs;
 mod lent;
@@ -25,12 +26,13 @@ use tally::{Found, Tally};
 
 type Subject = (&'static str, fn(&Options) -> Vec<Tally>);
 
-const FOLDERS: [&[Subject]; 6] = [
+const FOLDERS: [&[Subject]; 7] = [
     bits::SUBJECTS,
     crops::SUBJECTS,
     grids::SUBJECTS,
     mesh::SUBJECTS,
     scene::SUBJECTS,
+    display::SUBJECTS,
     view::SUBJECTS,
 ];
 

@@ -15,4 +15,5 @@ pub const MEASURES: i64 = 11;
 pub const NEEDS: i64 = 12;
 pub const NO_MESH: i64 = 13;
 pub const TOO_MANY: i64 = 14;
+pub const RECORDS: i64 = 15;
 pub const WIDE: i64 = 16;

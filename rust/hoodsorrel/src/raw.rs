@@ -157,6 +157,11 @@ calls! {
         numbers: &mut [u16], floats: &mut [u32], records: &mut [u32], words: &mut [u64]);
 }
 
+// What a display makes of records.
+calls! {
+    capi_triangles as triangles(records: &[u32], out: &mut [u32], words: &mut [u64]);
+}
+
 // The five functions of libviewer.a.
 calls! {
     hoodsorrel_measure_meshes as viewer_measure_meshes(payload: &[u8]);

@@ -56,6 +56,9 @@ pub enum Refusal {
     NotAMesh,
     /// 14: a count reaches 2^64, or 2^63 in the viewer's calls.
     CountTooLarge,
+    /// 15: the records are not whole fives, a mode is above 2, or a first point plus its count, or all counts together,
+    /// is above 4,294,967,295.
+    Records,
     /// 16: a field width is above 32.
     FieldWidth,
 }
@@ -72,7 +75,7 @@ pub enum Needed {
 }
 
 impl Refusal {
-    /// 1 to 14, or 16.
+    /// 1 to 16.
     pub const fn number(self) -> u8 {
         match self {
             Refusal::Kind => 1,
@@ -89,6 +92,7 @@ impl Refusal {
             Refusal::BufferTooShort(_) => 12,
             Refusal::NotAMesh => 13,
             Refusal::CountTooLarge => 14,
+            Refusal::Records => 15,
             Refusal::FieldWidth => 16,
         }
     }
@@ -100,11 +104,11 @@ impl Refusal {
     ///
     /// assert_eq!(Refusal::from_number(8), Some(Refusal::RunningNumber));
     /// assert_eq!(Refusal::from_number(16), Some(Refusal::FieldWidth));
-    /// assert_eq!([0, 12, 15].map(Refusal::from_number), [None; 3]);
+    /// assert_eq!([0, 12, 17].map(Refusal::from_number), [None; 3]);
     /// ```
     pub fn from_number(number: u8) -> Option<Refusal> {
         match number {
-            1..=11 | 13 | 14 | 16 => Some(Refusal::of_code(-i64::from(number), Needed::One(0))),
+            1..=11 | 13..=16 => Some(Refusal::of_code(-i64::from(number), Needed::One(0))),
             _ => None,
         }
     }
@@ -139,6 +143,10 @@ impl Refusal {
                 "the writer's tables are not a mesh, or its box would exceed 67,108,864 bytes"
             }
             Refusal::CountTooLarge => "a count reaches 2^64, or 2^63 where the answer is an i64",
+            Refusal::Records => {
+                "the records are not whole fives, a mode is above 2, or a first point plus its count, \
+                 or all counts together, is above 4,294,967,295"
+            }
             Refusal::FieldWidth => "a field width is above 32",
         }
     }
@@ -168,6 +176,7 @@ impl Refusal {
             -11 => Refusal::RadiusOrFaceWidth,
             -12 => Refusal::BufferTooShort(needed),
             -13 => Refusal::NotAMesh,
+            -15 => Refusal::Records,
             -16 => Refusal::FieldWidth,
             _ => Refusal::CountTooLarge,
         }
@@ -207,7 +216,7 @@ mod tests {
     use super::{Needed, Refusal};
 
     fn numbers() -> impl Iterator<Item = u8> {
-        (1..=14).chain([16])
+        1..=16
     }
 
     #[test]

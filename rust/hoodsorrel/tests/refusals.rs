@@ -5,6 +5,7 @@ use std::fs;
 use std::path::Path;
 
 use hoodsorrel::bits::*;
+use hoodsorrel::display::triangles;
 use hoodsorrel::payload::*;
 use hoodsorrel::scene::scene;
 use hoodsorrel::{Given, Refusal, viewer};
@@ -227,6 +228,18 @@ fn scenes(met: &mut Met) {
     }
 }
 
+fn displays(met: &mut Met) {
+    for records in [
+        &[0; 6][..],
+        &[0, 0, 3, 0, 0],
+        &[0, 0, 0, MOST, 1],
+        &[0, 0, 0, 0, MOST, 0, 0, 0, 0, 1],
+    ] {
+        met.refused("triangles", 15, triangles(records, &mut []));
+    }
+    met.refused("triangles", 12, triangles(&[0, 0, 0, 0, 3], &mut [0; 2]));
+}
+
 /// The rows of the table by call: `| CALL, CALL | NUMBERS |`, where a call stands in backticks.
 fn promised() -> BTreeSet<(String, u8)> {
     let path = Path::new(env!("CARGO_MANIFEST_DIR")).join("../../docs/REFUSALS.md");
@@ -256,5 +269,6 @@ fn each_call_with_each_of_its_refusals() {
     counts(&mut met);
     meshes(&mut met);
     scenes(&mut met);
+    displays(&mut met);
     assert_eq!(met.0, promised());
 }

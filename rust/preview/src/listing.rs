@@ -1,7 +1,7 @@
 //! What was read: in lines for standard output, and as a table for the page.
 
 use crate::colours::{colour, COLOURS};
-use crate::modes::Mode;
+use crate::modes;
 use crate::numbers::{counted, minus, thousands};
 use crate::scene::Counts;
 use crate::submeshes::RECORD;
@@ -74,7 +74,7 @@ fn records_table(records: &[u32], counts: &Counts) -> Table {
         let [mesh, texture, mode, first, points] = [0, 1, 2, 3, 4].map(|word| record[word]);
         let [mesh, texture, first, points] =
             [mesh, texture, first, points].map(|word| thousands(word.into()));
-        let words = [mesh, texture, Mode::named(mode), first, points];
+        let words = [mesh, texture, modes::named(mode), first, points];
         table.row(Some(colour(number)), words);
     }
     if more > 0 {

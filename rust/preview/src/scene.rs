@@ -1,7 +1,8 @@
 //! What the library reads of a payload, and its drawing. The library is called in this file alone.
 
+use hoodsorrel::display;
 pub use hoodsorrel::Given;
-use hoodsorrel::{Drawing, Named, Refusal};
+use hoodsorrel::{Drawing, Named, Needed, Refusal};
 
 /// Top, bottom, left, right.
 pub type Crop = [f32; 4];
@@ -37,10 +38,24 @@ pub fn scene(kind: u32, payload: &[u8], given: Given) -> Result<Scene, String> {
     })
 }
 
+/// The points of a record's triangles, three by three, counted through the whole drawing; or nothing where its mode is
+/// none that the library takes apart.
+pub fn triangles(record: &[u32]) -> Option<Vec<u32>> {
+    let length = match display::triangles(record, &mut []) {
+        Err(Refusal::BufferTooShort(Needed::One(length))) => length,
+        answer => return answer.ok().map(|_| Vec::new()),
+    };
+    let mut points = vec![0; length];
+    display::triangles(record, &mut points).ok()?;
+    Some(points)
+}
+
 /// A drawing's buffers are as long as it needs, so that 12 says that memory does not hold them.
 fn why(refusal: Refusal) -> String {
     match refusal {
-        Refusal::BufferTooShort(needed) => format!("preview: no memory for the drawing: {needed:?}"),
+        Refusal::BufferTooShort(needed) => {
+            format!("preview: no memory for the drawing: {needed:?}")
+        }
         _ => refusal.to_string(),
     }
 }

@@ -1,9 +1,8 @@
 //! The submeshes of a mesh list, and their drawing on a plane.
 
 use crate::colours::colour;
-use crate::modes::Mode;
 use crate::plane::Point;
-use crate::scene::Scene;
+use crate::scene::{triangles, Scene};
 use crate::svg::{triangles_style, Path, Svg};
 
 /// Words of a record: mesh, texture, mode, first point, points.
@@ -14,21 +13,18 @@ pub const POINT: usize = 5;
 pub struct Submesh<'a> {
     number: usize,
     pub mesh: usize,
-    mode: Mode,
-    floats: &'a [f32],
+    record: &'a [u32],
+    scene: &'a Scene,
 }
 
 /// The submeshes of a scene, in their order.
 pub fn submeshes(scene: &Scene) -> impl Iterator<Item = Submesh<'_>> {
     let records = scene.records.chunks_exact(RECORD).enumerate();
-    records.map(|(number, record)| {
-        let [first, count] = [record[3], record[4]].map(|points| POINT * points as usize);
-        Submesh {
-            number,
-            mesh: record[0] as usize,
-            mode: Mode::of(record[2]),
-            floats: &scene.floats[first..first + count],
-        }
+    records.map(move |(number, record)| Submesh {
+        number,
+        mesh: record[0] as usize,
+        record,
+        scene,
     })
 }
 
@@ -45,27 +41,29 @@ pub fn points(scene: &Scene) -> impl Iterator<Item = [f64; POINT]> + '_ {
 impl Submesh<'_> {
     /// x, y, z, u, v of each point.
     pub fn points(&self) -> impl Iterator<Item = [f64; POINT]> + '_ {
-        self.floats.chunks_exact(POINT).map(coordinates)
+        let [first, count] = [self.record[3], self.record[4]].map(|points| POINT * points as usize);
+        let floats = &self.scene.floats[first..first + count];
+        floats.chunks_exact(POINT).map(coordinates)
     }
 
     /// One path on a picture about as wide as `width`: triangles, or the points as dots. `at` says where a point lies
     /// on the page; a triangle with a point that lies nowhere is left out.
     pub fn draw(&self, svg: &mut Svg, width: f64, at: impl Fn([f64; POINT]) -> Option<Point>) {
-        let count = self.floats.len() / POINT;
-        let place = |point: usize| at(coordinates(&self.floats[POINT * point..]));
+        let place = |point: u32| at(coordinates(&self.scene.floats[POINT * point as usize..]));
         let mut path = Path::default();
-        let style = match self.mode {
-            Mode::Other => {
-                (0..count).filter_map(place).for_each(|at| path.dot(at));
-                dots_style(colour(self.number))
-            }
-            mode => {
-                for k in 0..mode.triangles(count) {
-                    if let [Some(a), Some(b), Some(c)] = mode.corners(k).map(place) {
+        let style = match triangles(self.record) {
+            Some(points) => {
+                for corners in points.as_chunks::<3>().0 {
+                    if let [Some(a), Some(b), Some(c)] = corners.map(place) {
                         path.triangle([a, b, c]);
                     }
                 }
-                triangles_style(colour(self.number), width / (count as f64).sqrt())
+                let size = width / f64::from(self.record[4]).sqrt();
+                triangles_style(colour(self.number), size)
+            }
+            None => {
+                self.points().filter_map(&at).for_each(|at| path.dot(at));
+                dots_style(colour(self.number))
             }
         };
         svg.path(&path, &style);

@@ -14,18 +14,19 @@ ghost use lib.ListN.{length};
 ghost use lib.Seq.{sets};
 ghost use Rattle.payload.specs.MeshRead.{readMesh, readMeshes};
 ghost use Rattle.payload.specs.MeshDrawing.{submeshRecords, pointCount, recordsFrom, drawnRecords};
+ghost use Rattle.payload.specs.Records.{recordWords};
 ghost use Rattle.payload.specs.Internal.{WasRead, SubmeshesThere, submeshesOf, meshRead, boxMeshes, boxRead};
-ghost use Rattle.payload.specs.Internal.{meshesFrom, recordWords, RecordRoom, afterRecords};
+ghost use Rattle.payload.specs.Internal.{meshesFrom, RecordRoom, afterRecords};
 ghost use Rattle.payload.specs.Lent.{answerFor, buffersAfter, atEntry};
 ghost use Rattle.payload.specs.Meshes.{recordsPlan, recordsSays};
 
 // A submesh's record: its mesh, its texture and mode, its first point among all, and how many points it has.
-struct Record {
-    mesh: u32,
-    texture: u32,
-    mode: u32,
-    first: u32,
-    points: u32,
+pub struct Record {
+    pub mesh: u32,
+    pub texture: u32,
+    pub mode: u32,
+    pub first: u32,
+    pub points: u32,
 }
 
 fn put_record(out: &mut [u32], at: usize, r: Record)

@@ -23,7 +23,7 @@ const fn call(
 }
 
 /// The first one has number 1.
-pub const CALLS: [Call; 61] = [
+pub const CALLS: [Call; 62] = [
     call("byte_new", &[], "-", "words"),
     call("position", &["at"], "-", "words"),
     call("remaining", &["at"], "bytes", "words"),
@@ -167,4 +167,10 @@ pub const CALLS: [Call; 61] = [
         "words",
     ),
     call("equi_crop", &["t", "b", "l", "r"], "-", "words"),
+    call(
+        "triangles",
+        &["records", "numbers"],
+        "records",
+        "words numbers",
+    ),
 ];

@@ -15,6 +15,8 @@ pub const MOST_FLOATS: usize = 4096;
 pub const MOST_DRAWN: [usize; 3] = [MOST_NUMBERS, MOST_FLOATS, 512];
 /// Pool, coordinates, submeshes, points.
 pub const MOST_TABLES: [usize; 4] = [512, 2048, 512, 2048];
+/// Of a list that is no drawing's: numbers of 32 bits.
+pub const MOST_LISTED: usize = 4096;
 const NAN: u32 = 0x7FC0_0000;
 
 /// FNV-1a in 32 bits.

@@ -15,6 +15,7 @@ mod line;
 mod lists;
 mod numbers;
 mod put;
+mod records;
 mod runs;
 mod scenes;
 mod spheres;
@@ -32,7 +33,7 @@ use line::List;
 type Group = (&'static str, fn(&mut List, &mut Random));
 
 /// Each takes random numbers of its own name.
-const GROUPS: [Group; 19] = [
+const GROUPS: [Group; 20] = [
     ("answers bytes", bytes::add),
     ("answers fields", fields::add),
     ("answers numbers", numbers::add),
@@ -52,6 +53,7 @@ const GROUPS: [Group; 19] = [
     ("answers crop", crops::add_crop),
     ("answers lengths", lengths::add),
     ("answers measured", bodies::add_measured),
+    ("answers records", records::add),
 ];
 
 const SOURCE: &str = "\

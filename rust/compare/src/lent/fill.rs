@@ -8,7 +8,7 @@ use crate::tally::Tally;
 /// So many items behind the lent ones have to stay as they were.
 const BEYOND: usize = 3;
 
-/// An item of a lent buffer. Those of 32 bits are the bits of floats.
+/// An item of a lent buffer. Those of 32 bits are the bits of floats, but for `check_exactly`.
 pub trait Item: Copy + PartialEq + LowerHex {
     /// What stands at a place before a call.
     fn before(place: usize) -> Self;
@@ -92,25 +92,47 @@ pub fn check<T: Item, I: Debug>(
     call: impl FnOnce(&mut [T], &mut [u64]) -> i64,
     input: impl FnOnce() -> I,
 ) {
+    check_by(T::same, tally, due, after, call, input);
+}
+
+/// The same where items of 32 bits are numbers.
+pub fn check_exactly<T: Item, I: Debug>(
+    tally: &mut Tally,
+    due: &Answer,
+    after: &[T],
+    call: impl FnOnce(&mut [T], &mut [u64]) -> i64,
+    input: impl FnOnce() -> I,
+) {
+    check_by(|ours, due| ours == due, tally, due, after, call, input);
+}
+
+fn check_by<T: Item, I: Debug>(
+    same: fn(T, T) -> bool,
+    tally: &mut Tally,
+    due: &Answer,
+    after: &[T],
+    call: impl FnOnce(&mut [T], &mut [u64]) -> i64,
+    input: impl FnOnce() -> I,
+) {
     let lent = after.len();
     let mut out = before(lent + BEYOND);
     let (ours, reply) = tally.ask(due, |words| call(&mut out[..lent], words));
     let ours = Outcome {
         reply: ours,
-        wrong: first_wrong(&out, after),
+        wrong: first_wrong(same, &out, after),
     };
     let due = Outcome { reply, wrong: None };
     tally.check(ours, due, input);
 }
 
-fn first_wrong<T: Item>(out: &[T], after: &[T]) -> Option<Wrong<T>> {
+fn first_wrong<T: Item>(same: fn(T, T) -> bool, out: &[T], after: &[T]) -> Option<Wrong<T>> {
     let equal = if out.starts_with(after) {
         after.len()
     } else {
         0
     };
     let due = |place: usize| after.get(place).copied().unwrap_or(T::before(place));
-    let place = (equal..out.len()).find(|&place| !out[place].same(due(place)))?;
+    let place = (equal..out.len()).find(|&place| !same(out[place], due(place)))?;
     Some(Wrong {
         place,
         ours: out[place],

@@ -1,0 +1,63 @@
+//! What a display makes of the records of a drawing.
+//!
+//! Any words may be handed in as records: a call judges them before it writes anything.
+
+use crate::answer::{size, word};
+use crate::refusal::{Needed, Refusal};
+use crate::scene::Drawing;
+use crate::{memory, raw};
+
+/// Puts the triangles of records into a buffer, submesh after submesh, and answers how many numbers there are: three
+/// point numbers for each triangle. Mode 0 takes points in threes and drops one or two that are left over; mode 1 is a strip, in
+/// which every other triangle has its first two points exchanged, so that all turn the same way; mode 2 is a fan.
+///
+/// Refused with 15, then 12.
+///
+/// ```
+/// use hoodsorrel::display::triangles;
+/// use hoodsorrel::{Needed, Refusal};
+///
+/// // Of mesh 0 and texture 7: a strip of four points, and a fan of four after it.
+/// let records = [0, 7, 1, 0, 4, 0, 7, 2, 4, 4];
+/// let mut numbers = [0; 12];
+/// assert_eq!(triangles(&records, &mut numbers), Ok(12));
+/// assert_eq!(numbers, [0, 1, 2, 2, 1, 3, 4, 5, 6, 4, 6, 7]);
+///
+/// assert_eq!(triangles(&records, &mut []), Err(Refusal::BufferTooShort(Needed::One(12))));
+/// assert_eq!(triangles(&records[..9], &mut numbers), Err(Refusal::Records));
+/// ```
+pub fn triangles(records: &[u32], out: &mut [u32]) -> Result<usize, Refusal> {
+    word(|words| raw::triangles(records, out, words)).map(size)
+}
+
+impl Drawing {
+    /// The triangles of a mesh list's submeshes, by the numbers of [`Drawing::points`]: measures them, makes the buffer
+    /// and fills it. A crop and a cube map have no records, and so none.
+    ///
+    /// Refused with 15 where a submesh has another mode than 0, 1 and 2, and with 12 only where memory does not hold the
+    /// triangles.
+    ///
+    /// ```
+    /// use hoodsorrel::scene::MESHES;
+    /// use hoodsorrel::{Drawing, Given};
+    ///
+    /// # let payload = [
+    /// #     0, 0, 0, 0x20, b'm', b'e', b's', b'h', 0, 0, 0, 1, 0x3F, 0, 0, 0, 0, 0, 0, 1, 0x00, 0, 0, 0, 1, 7, 1, 0, 0, 0,
+    /// #     4, 0x00,
+    /// # ];
+    /// // One vertex; one submesh, a strip of four points.
+    /// let drawing = Drawing::of(MESHES, &payload, &Given::default())?;
+    /// assert_eq!(drawing.triangles()?, [0, 1, 2, 2, 1, 3]);
+    /// # Ok::<(), hoodsorrel::Refusal>(())
+    /// ```
+    pub fn triangles(&self) -> Result<Vec<u32>, Refusal> {
+        let needed = match triangles(&self.records, &mut []) {
+            Err(Refusal::BufferTooShort(Needed::One(needed))) => needed,
+            other => return other.map(|_| Vec::new()),
+        };
+        let no_memory = Refusal::BufferTooShort(Needed::One(needed));
+        let mut numbers = memory::zeros(needed).ok_or(no_memory)?;
+        triangles(&self.records, &mut numbers)?;
+        Ok(numbers)
+    }
+}
