@@ -6,15 +6,15 @@ use mathlib.Core.Bool.{Bool, true, false, _&&_, and-false}
 use native.Mathlib.Nat.{zero-add}
 use native.Mathlib.Omega.{arith}
 use lib.Dec.{eqb, leb}
-use lib.ListN.{length, drop, length-append}
+use lib.ListN.{length, drop}
 use borrow.Author.Tests.{le-leb, lt-leb, leb-true, eq-eqb, ne-eqb, eqb-true}
 use Rattle.bits.specs.Verdict.{accepted, declined, mapped}
 use Rattle.bits.proofs.VerdictLaws.{both-true, tested-value}
 use Rattle.payload.specs.Records.{recordsIn, pointSum}
-use Rattle.display.specs.Triangles.{triangleCount, recordTriangles, trianglesOf, recordUsable, allUsable, recordsUsable, trianglesMade}
+use Rattle.display.specs.Triangles.{triangleCount, trianglesOf, recordUsable, allUsable, recordsUsable, trianglesMade}
 use Rattle.display.specs.Internal.{recordAt}
 use Rattle.payload.specs.declared.mesh.records.Record.{Record}
-use Rattle.display.proofs.RecordLaws.{records-on, records-end, whole-on}
+use Rattle.display.proofs.RecordLaws.{Fives, fives-none, fives-on, fives-end, rest, rest-long}
 use Rattle.display.proofs.TriangleLaws.{count, count-few}
 
 -- records that are left, after so many points
@@ -75,9 +75,7 @@ made-told words l e =
 -- ---- the loop: the records before word i are judged, they have so many points and make so many numbers
 
 pub record Judging (words : List ℕ) (i points numbers : ℕ) : Type 0 where
-  pub whole : length words % 5 ≡ 0
-  pub fives : i % 5 ≡ 0
-  pub within : i ≤ length words
+  pub fives : Fives words i
   pub few : points ≤ 4294967295
   pub small : numbers ≤ 3 * points
   pub counted : numbers + length (trianglesOf (recordsIn (drop i words))) ≡ length (trianglesOf (recordsIn words))
@@ -86,9 +84,7 @@ pub record Judging (words : List ℕ) (i points numbers : ℕ) : Type 0 where
 pub judging-none : (words : List ℕ) → length words % 5 ≡ 0 → Judging words 0 0 0
 judging-none words e =
     record {
-      whole = e;
-      fives = refl;
-      within = omega arith;
+      fives = fives-none words e;
       few = omega arith;
       small = omega arith;
       counted = omega arith;
@@ -96,16 +92,10 @@ judging-none words e =
     }
 
 module _ {words : List ℕ} {i points numbers : ℕ} (j : Judging words i points numbers) where
-  pub next-there : i < length words → i + 5 ≤ length words
-  next-there h = whole-on i (length words) (j .fives) (j .whole) h
-
   module _ (h : i < length words) (r : Record) (e : r ≡ recordAt words i) where
-    rest : recordsIn (drop i words) ≡ r ∷ recordsIn (drop (i + 5) words)
-    rest = rw e (records-on words i (next-there h))
-
     -- refused at this record
     refused : usableAfter points (r ∷ recordsIn (drop (i + 5) words)) ≡ false → declined 15 ≡ mapped length (trianglesMade words)
-    refused f = sym (rw (made-no words (j .whole) (j .judged ∙ ap (usableAfter points) rest ∙ f)))
+    refused f = sym (rw (made-no words (j .fives .whole) (j .judged ∙ ap (usableAfter points) (rest (j .fives) h r e) ∙ f)))
 
     pub judging-bad : recordUsable r ≡ false → declined 15 ≡ mapped length (trianglesMade words)
     judging-bad f = refused (after-bad points r _ f)
@@ -115,23 +105,18 @@ module _ {words : List ℕ} {i points numbers : ℕ} (j : Judging words i points
 
     pub judging-on : recordUsable r ≡ true → points + r .points ≤ 4294967295
         → Judging words (i + 5) (points + r .points) (numbers + 3 * triangleCount (r .mode) (r .points))
-    unfolding trianglesOf
     judging-on f few =
-        let n : length (trianglesOf (recordsIn (drop i words))) ≡ length (recordTriangles r) + length (trianglesOf (recordsIn (drop (i + 5) words))) =
-        ap (λ (l : List Record). length (trianglesOf l)) rest ∙ length-append (recordTriangles r) _ in
         record {
-          whole = j .whole;
-          fives = omega (arith, j .fives);
-          within = next-there h;
+          fives = fives-on (j .fives) h;
           few = few;
           small = omega (arith, j .small, count-few r);
-          counted = omega (arith, j .counted, n, count r);
-          judged = j .judged ∙ ap (usableAfter points) rest ∙ after-on points r _ f;
+          counted = omega (arith, j .counted, rest-long (j .fives) h r e, count r);
+          judged = j .judged ∙ ap (usableAfter points) (rest (j .fives) h r e) ∙ after-on points r _ f;
         }
 
   pub judging-end : length words ≤ i → accepted numbers ≡ mapped length (trianglesMade words)
   unfolding trianglesOf
   judging-end h =
-      let z = records-end words i (omega (arith, j .within)) in
+      let z = fives-end (j .fives) h in
       let n : numbers ≡ length (trianglesOf (recordsIn words)) = omega (arith, j .counted, ap (λ (l : List Record). length (trianglesOf l)) z) in
-      rw (made-yes words (j .whole) (j .judged ∙ ap (usableAfter points) z ∙ after-none points (j .few)), n)
+      rw (made-yes words (j .fives .whole) (j .judged ∙ ap (usableAfter points) z ∙ after-none points (j .few)), n)

@@ -7,22 +7,16 @@ use lib.ListN.{length}
 use lib.Seq.{sets}
 use borrow.Author.Tests.{eq-eqb, ne-eqb}
 use Rattle.payload.specs.Fill.{each}
-use Rattle.payload.proofs.FillLaws.{each-same, each-length, Filling, filling-room, filling-more, filling-all}
+use Rattle.payload.proofs.FillLaws.{each-same, Filling, filling-room, filling-more, filling-all}
 use Rattle.display.specs.Triangles.{corners, cornersFrom, triangleAt, recordTriangles, triangleCount}
 use Rattle.display.specs.Internal.{pointAfter, Numbered}
 use Rattle.payload.specs.declared.mesh.records.Record.{Record}
-use Rattle.display.proofs.TriangleLaws.{reach, corners-are, reach-below}
+use Rattle.display.proofs.TriangleLaws.{reach, reach-below, three, long}
 
 -- ---- k triangles of n are put
 
 abbrev pub Putting : ℕ → ℕ → ℕ → List ℕ → ℕ → List ℕ → ℕ → ℕ → Type 0
 Putting mode first n d at out to k = Filling (cornersFrom mode first) n d at out to k
-
-pub three : (mode first k : ℕ) → length (cornersFrom mode first k) ≡ 3
-three mode first k = rw (corners-are mode k .three)
-
-pub long : (mode first n : ℕ) → length (each (cornersFrom mode first) n) ≡ 3 * n
-long mode first n = each-length (cornersFrom mode first) 3 (three mode first) n ∙ omega arith
 
 module _ (mode first : ℕ) {n : ℕ} {d : List ℕ} {at : ℕ} {out : List ℕ} {to k : ℕ} (i : Putting mode first n d at out to k)
   where

@@ -2,7 +2,7 @@
 -- Assumes nothing.
 use Prim.Native.Nat.{ℕ, zero, suc, _+_, _-_, _*_, _/_, _%_, _≤_, _<_}
 use mathlib.Core.Path.{_≡_, refl, sym, ap, _∙_}
-use mathlib.Core.List.{List, [], _∷_, _++_, map, List·Memᴰ, List·Memᴰ·head, List·Memᴰ·tail}
+use mathlib.Core.List.{List, [], _∷_, _++_, List·Memᴰ, List·Memᴰ·head, List·Memᴰ·tail}
 use mathlib.Core.Bool.{Bool, true, false, cond}
 use mathlib.Core.Logic.{_↔_, _⊎_, inl, inr}
 use native.Mathlib.Nat.{mul-comm, le-refl}
@@ -12,9 +12,9 @@ use lib.Seq.{getD-append-add}
 use lib.Dec.{eqb}
 use Rattle.bits.proofs.VerdictLaws.{le-or-lt}
 use Rattle.payload.specs.Fill.{each}
-use Rattle.payload.proofs.FillLaws.{each-length}
+use Rattle.payload.proofs.FillLaws.{each-length, getD-mapped}
 use Rattle.payload.proofs.AllLaws.{All, nil-all, cons-all, each-all, map-all}
-use Rattle.display.specs.Triangles.{triangleCount, corners, triangleAt, recordTriangles}
+use Rattle.display.specs.Triangles.{triangleCount, corners, cornersFrom, triangleAt, recordTriangles}
 use Rattle.payload.specs.declared.mesh.records.Record.{Record}
 
 -- three points, the third `last`, the others not past it
@@ -85,13 +85,17 @@ there mode n k = (
   λ h. below-reach mode n k (h (reach mode k) (reach-corner mode k)),
 )
 
-module _ (r : Record) where
-  pub triangle-three : (k : ℕ) → length (triangleAt r k) ≡ 3
-  triangle-three k = rw (corners-are (r .mode) k .three)
+-- three numbers each, from any first point on
+pub three : (mode first k : ℕ) → length (cornersFrom mode first k) ≡ 3
+three mode first k = rw (corners-are mode k .three)
 
+pub long : (mode first n : ℕ) → length (each (cornersFrom mode first) n) ≡ 3 * n
+long mode first n = each-length (cornersFrom mode first) 3 (three mode first) n ∙ mul-comm n 3
+
+module _ (r : Record) where
   pub count : length (recordTriangles r) ≡ 3 * triangleCount (r .mode) (r .points)
   unfolding recordTriangles
-  count = each-length (triangleAt r) 3 triangle-three (triangleCount (r .mode) (r .points)) ∙ mul-comm _ 3
+  count = long (r .mode) (r .first) (triangleCount (r .mode) (r .points))
 
   pub range : All (λ p. (r .first ≤ p) × (p < r .first + r .points)) (recordTriangles r)
   unfolding recordTriangles
@@ -138,15 +142,9 @@ piece f e (suc n) k i h l = go (le-or-lt n k) (piece f e n k i)
     go (inr m) before =
         List·getD-append (each f n) (f n) 0 (3 * k + i) (omega (arith, each-length f 3 e n)) ∙ before m l
 
--- a number added to each
-added : (a : ℕ) (l : List ℕ) (i : ℕ) → i < length l → getD (map (λ p. a + p) l) i 0 ≡ a + getD l i 0
-added a [] i h = absurd (omega arith)
-added a (x ∷ l) zero h = refl
-added a (x ∷ l) (suc i) h = added a l i (omega arith)
-
 pub point : (r : Record) (k i : ℕ) → k < triangleCount (r .mode) (r .points) → i < 3
     → getD (recordTriangles r) (3 * k + i) 0 ≡ r .first + getD (corners (r .mode) k) i 0
 unfolding recordTriangles
 point r k i h l =
-    piece (triangleAt r) (triangle-three r) (triangleCount (r .mode) (r .points)) k i h l
-    ∙ added (r .first) (corners (r .mode) k) i (rw (corners-are (r .mode) k .three) l)
+    piece (triangleAt r) (three (r .mode) (r .first)) (triangleCount (r .mode) (r .points)) k i h l
+    ∙ getD-mapped (λ p. r .first + p) 0 0 (corners (r .mode) k) i (rw (corners-are (r .mode) k .three) l)

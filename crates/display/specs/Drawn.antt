@@ -1,6 +1,6 @@
 -- The triangles of what is drawn of a payload: `triangles` takes the records that the buffers of `parse_meshes` and of
--- the scene call begin with, where no mode is above 2, and each number that it lists is a point of that drawing. The proofs are
--- in proofs/DrawnProofs.antt.
+-- the scene call begin with, where no mode is above 2, and each number that it lists is a point of that drawing. The
+-- proofs are in proofs/DrawnProofs.antt.
 use Prim.Native.Nat.{ℕ, _+_, _*_, _≤_}
 use mathlib.Core.Path.{_≡_}
 use mathlib.Core.List.{List, List·Memᴰ}

@@ -1,5 +1,5 @@
--- What the crate's contracts cite, and the theorems about it: `Laws`, `Drawn`, `Refusals` and `Marked`, whose proofs are
--- in proofs/.
+-- What the crate's contracts cite, and the theorems about it: `Laws`, `Drawn`, `Refusals` and `Marked`, whose proofs
+-- are in proofs/.
 pub mod Triangles
 pub mod Internal
 pub mod Laws

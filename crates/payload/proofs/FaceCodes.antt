@@ -1,6 +1,6 @@
 -- Faces of nine codes: code k of a face makes float k of its nine, whatever the codes are. Assumes nothing.
 use Prim.Native.Nat.{ℕ, zero, suc, _+_, _*_, _<_}
-use mathlib.Core.Path.{_≡_, refl, sym, ap, _∙_}
+use mathlib.Core.Path.{_≡_, sym, ap, _∙_}
 use mathlib.Core.List.{List, [], _∷_, _++_, map}
 use mathlib.Core.Bool.{Bool, true, _&&_}
 use native.Mathlib.Omega.{arith}
@@ -13,6 +13,7 @@ use borrow.Author.Tests.{eqb-true}
 use Rattle.bits.proofs.VerdictLaws.{both-true}
 use Rattle.payload.specs.Cube.{faceTable}
 use Rattle.payload.specs.InternalCube.{floatOf, Makes}
+use Rattle.payload.proofs.FillLaws.{getD-mapped}
 
 -- ---- faces of nine codes
 
@@ -24,11 +25,6 @@ abbrev pub nines : List (List ℤ) → Bool
 nines [] = true
 nines (face ∷ l) = eqb (length face) 9 && nines l
 
-getD-map : (l : List ℤ) (k : ℕ) → k < length l → getD (map floatOf l) k nan ≡ floatOf (getD l k (pos 0))
-getD-map [] k h = absurd (omega arith)
-getD-map (z ∷ l) zero h = refl
-getD-map (z ∷ l) (suc k) h = getD-map l k (omega arith)
-
 -- code k of a face makes float k of its nine
 made : (l : List (List ℤ)) (face k : ℕ) → nines l ≡ true → face < length l → k < 9
     → floatOf (getD (getD l face []) k (pos 0)) ≡ getD (floats l) (face * 9 + k) nan
@@ -37,7 +33,7 @@ made (f ∷ l) zero k e h i =
     let n = eqb-true (length f) 9 (both-true (eqb (length f) 9) (nines l) e .0) in
     let m : k < length (map floatOf f) = omega (arith, n, length-map f floatOf) in
     let z : zero * 9 + k ≡ k = omega arith in
-    sym (getD-map f k (omega (arith, n))) ∙ sym (List·getD-append (map floatOf f) (floats l) nan k m)
+    sym (getD-mapped floatOf (pos 0) nan f k (omega (arith, n))) ∙ sym (List·getD-append (map floatOf f) (floats l) nan k m)
     ∙ ap (λ (j : ℕ). getD (map floatOf f ++ floats l) j nan) (sym z)
 made (f ∷ l) (suc face) k e h i =
     let t = both-true (eqb (length f) 9) (nines l) e in

@@ -1,6 +1,6 @@
 -- Laws of lists made piece by piece, of buffers filled with them, and of the lengths of two lists. Assumes nothing.
 use mathlib.Core.Path.{_≡_, refl, sym, ap, ap₂, _∙_}
-use mathlib.Core.List.{List, [], _∷_, _++_}
+use mathlib.Core.List.{List, [], _∷_, _++_, map}
 use Prim.Native.Nat.{ℕ, zero, suc, _+_, _*_, _≤_, _<_}
 use mathlib.Core.Logic.{_⊎_, inl, inr}
 use native.Mathlib.Nat.{suc-mul, add-suc, suc-add, add-zero, zero-mul, le-refl}
@@ -17,6 +17,13 @@ use Rattle.payload.specs.Fill.{each, bothLengths}
 pub each-more : (f : ℕ → List ℕ) (n : ℕ) → each f (n + 1) ≡ each f n ++ f n
 unfolding each
 each-more f n = rw add-one
+
+-- an element of a mapped list, whatever is said where there is none
+pub getD-mapped : {A B : Type 0} (f : A → B) (d : A) (e : B) (l : List A) (k : ℕ) → k < length l
+    → getD (map f l) k e ≡ f (getD l k d)
+getD-mapped f d e [] k h = absurd (omega arith)
+getD-mapped f d e (x ∷ l) zero h = refl
+getD-mapped f d e (x ∷ l) (suc k) h = getD-mapped f d e l k (omega arith)
 
 pub each-same : (f g : ℕ → List ℕ) → ((j : ℕ) → f j ≡ g j) → (n : ℕ) → each f n ≡ each g n
 unfolding each

@@ -20,8 +20,8 @@ const LISTS: [Records; 4] = [
 
 pub fn table() -> Result<(), String> {
     println!();
-    println!("triangles, one buffer for both sides, exactly as long as needed, warm and not cleared between runs; rust");
-    println!("judges all records before it fills, as ours does; medians of {RUNS} runs, ratio = ours / rust");
+    println!("triangles, one buffer for both sides, exactly as long as needed, warm and not cleared between runs;");
+    println!("rust judges all records before it fills, as ours does; medians of {RUNS} runs, ratio = ours / rust");
     println!(
         "{:<22} {:>8} {:>8} {:>8} {:>6}",
         "records", "numbers", "rust_us", "ours_us", "ratio"

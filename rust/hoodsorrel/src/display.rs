@@ -8,8 +8,9 @@ use crate::scene::Drawing;
 use crate::{memory, raw};
 
 /// Puts the triangles of records into a buffer, submesh after submesh, and answers how many numbers there are: three
-/// point numbers for each triangle. Mode 0 takes points in threes and drops one or two that are left over; mode 1 is a strip, in
-/// which every other triangle has its first two points exchanged, so that all turn the same way; mode 2 is a fan.
+/// point numbers for each triangle. Mode 0 takes points in threes and drops one or two that are left over; mode 1 is a
+/// strip, in which every other triangle has its first two points exchanged, so that all turn the same way; mode 2 is a
+/// fan.
 ///
 /// Refused with 15, then 12.
 ///
@@ -34,16 +35,16 @@ impl Drawing {
     /// The triangles of a mesh list's submeshes, by the numbers of [`Drawing::points`]: measures them, makes the buffer
     /// and fills it. A crop and a cube map have no records, and so none.
     ///
-    /// Refused with 15 where a submesh has another mode than 0, 1 and 2, and with 12 only where memory does not hold the
-    /// triangles.
+    /// Refused with 15 where a submesh has another mode than 0, 1 and 2, and with 12 only where memory does not hold
+    /// the triangles.
     ///
     /// ```
     /// use hoodsorrel::scene::MESHES;
     /// use hoodsorrel::{Drawing, Given};
     ///
     /// # let payload = [
-    /// #     0, 0, 0, 0x20, b'm', b'e', b's', b'h', 0, 0, 0, 1, 0x3F, 0, 0, 0, 0, 0, 0, 1, 0x00, 0, 0, 0, 1, 7, 1, 0, 0, 0,
-    /// #     4, 0x00,
+    /// #     0, 0, 0, 0x20, b'm', b'e', b's', b'h', 0, 0, 0, 1, 0x3F, 0, 0, 0, 0, 0, 0, 1, 0x00, 0, 0, 0, 1, 7, 1, 0, 0,
+    /// #     0, 4, 0x00,
     /// # ];
     /// // One vertex; one submesh, a strip of four points.
     /// let drawing = Drawing::of(MESHES, &payload, &Given::default())?;

@@ -37,8 +37,8 @@ pub fn good(random: &mut Random, most: usize) -> Vec<[u32; 5]> {
         .collect()
 }
 
-/// A record of each mode, 3 among them, with so many points from each of these points on: up to the last point that there
-/// may be, and one past it.
+/// A record of each mode, 3 among them, with so many points from each of these points on: up to the last point that
+/// there may be, and one past it.
 pub fn at_limits() -> Vec<Vec<u32>> {
     let mut lists = Vec::new();
     for mode in 0..=3 {

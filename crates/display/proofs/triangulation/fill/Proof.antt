@@ -2,7 +2,8 @@
 use Prim.Native.Nat.{_-_}
 use native.Mathlib.Omega.{arith}
 use lib.ListN.{length}
-use Rattle.display.proofs.PutLaws.{Putting, putting-none, putting-points, putting-room, putting-on, putting-end, next-there}
+use Rattle.display.proofs.RecordLaws.{next-there}
+use Rattle.display.proofs.PutLaws.{Putting, putting-none, putting-points, putting-room, putting-on, putting-end}
 use Rattle.display.proofs.triangulation.fill.Statement.{statement}
 use Rattle.display.proofs.triangulation.fill.Tie as tie
 
@@ -16,7 +17,7 @@ loop-holds : tie.Need-loop-holds Inv-loop μ-loop
 loop-holds c = putting-none _ _ (c .before .before .pre .0)
 
 record-at-requires : tie.Need-record-at-requires Inv-loop μ-loop
-record-at-requires c κs = next-there (c .before .loop .inv) (c .loop-test .taken)
+record-at-requires c κs = next-there (c .before .loop .inv .fives) (c .loop-test .taken)
 
 put-record-requires : tie.Need-put-record-requires Inv-loop μ-loop
 put-record-requires c κs =
@@ -29,11 +30,11 @@ put-record-requires c κs =
 
 add-i : tie.Need-add-i Inv-loop μ-loop
 add-i c =
-    omega (arith, c .before .before .before .before .before .before .before .before .before .good, next-there (c .before .before .before .before .before .before .loop .inv) (c .before .before .before .before .before .loop-test .taken))
+    omega (arith, c .before .before .before .before .before .before .before .before .before .good, next-there (c .before .before .before .before .before .before .loop .inv .fives) (c .before .before .before .before .before .loop-test .taken))
 
 loop-less : tie.Need-loop-less Inv-loop μ-loop
 loop-less c =
-    omega (arith, c .before .before .before .before .before .before .before .before .before .good, next-there (c .before .before .before .before .before .before .loop .inv) (c .before .before .before .before .before .loop-test .taken))
+    omega (arith, c .before .before .before .before .before .before .before .before .before .good, next-there (c .before .before .before .before .before .before .loop .inv .fives) (c .before .before .before .before .before .loop-test .taken))
 
 loop-again : tie.Need-loop-again Inv-loop μ-loop
 loop-again c =

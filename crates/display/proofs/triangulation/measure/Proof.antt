@@ -5,7 +5,8 @@ use native.Mathlib.Omega.{arith}
 use lib.ListN.{length}
 use borrow.Author.Tests.{not-true, not-false}
 use borrow.Author.Needs.{needs}
-use Rattle.display.proofs.JudgeLaws.{Judging, judging-none, judging-bad, judging-many, judging-on, judging-end, next-there, made-torn}
+use Rattle.display.proofs.RecordLaws.{next-there}
+use Rattle.display.proofs.JudgeLaws.{Judging, judging-none, judging-bad, judging-many, judging-on, judging-end, made-torn}
 use Rattle.display.proofs.triangulation.measure.Statement.{statement}
 use Rattle.display.proofs.triangulation.measure.Tie as tie
 
@@ -22,7 +23,7 @@ loop-holds : tie.Need-loop-holds Inv-loop μ-loop
 loop-holds c = judging-none _ (c .if1 .left)
 
 record-at-requires : tie.Need-record-at-requires Inv-loop μ-loop
-record-at-requires c κs = next-there (c .before .loop .inv) (c .loop-test .taken)
+record-at-requires c κs = next-there (c .before .loop .inv .fives) (c .loop-test .taken)
 
 record-usable-requires : tie.Need-record-usable-requires Inv-loop μ-loop
 record-usable-requires c κs = tt
@@ -59,11 +60,11 @@ add-numbers c =
 
 add-i : tie.Need-add-i Inv-loop μ-loop
 add-i c =
-    omega (arith, c .before .before .before .before .before .before .before .before .before .before .before .good, next-there (c .before .before .before .before .before .before .before .before .loop .inv) (c .before .before .before .before .before .before .before .loop-test .taken))
+    omega (arith, c .before .before .before .before .before .before .before .before .before .before .before .good, next-there (c .before .before .before .before .before .before .before .before .loop .inv .fives) (c .before .before .before .before .before .before .before .loop-test .taken))
 
 loop-less : tie.Need-loop-less Inv-loop μ-loop
 loop-less c =
-    omega (arith, c .before .before .before .before .before .before .before .before .before .before .before .good, next-there (c .before .before .before .before .before .before .before .before .loop .inv) (c .before .before .before .before .before .before .before .loop-test .taken))
+    omega (arith, c .before .before .before .before .before .before .before .before .before .before .before .good, next-there (c .before .before .before .before .before .before .before .before .loop .inv .fives) (c .before .before .before .before .before .before .before .loop-test .taken))
 
 loop-again : tie.Need-loop-again Inv-loop μ-loop
 loop-again c =

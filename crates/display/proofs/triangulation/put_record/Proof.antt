@@ -3,8 +3,8 @@ use mathlib.Core.Path.{ap, _∙_}
 use native.Mathlib.Omega.{arith}
 use lib.Seq.{sets}
 use borrow.Author.Needs.{needs}
-use Rattle.display.proofs.TriangleLaws.{count}
-use Rattle.display.proofs.LoopLaws.{long, of-threes, of-strip, of-fan, threes-few, numbered}
+use Rattle.display.proofs.TriangleLaws.{count, long}
+use Rattle.display.proofs.LoopLaws.{of-threes, of-strip, of-fan, threes-few, numbered}
 use Rattle.display.proofs.triangulation.put_record.Statement.{statement}
 use Rattle.display.proofs.triangulation.put_record.Tie as tie
 
