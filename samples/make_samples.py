@@ -70,12 +70,15 @@ def mesh(pool, vertices, submeshes, free=0):
 
 
 def listing(meshes):
-    text, first, count = HEADING, 0, 0
+    text, first, count, textures = HEADING, 0, 0, {}
     for number, submeshes in enumerate(meshes):
         for texture, mode, points in submeshes:
             text += f"{number} {texture} {mode} {first} {len(points)}\n"
             first += len(points)
             count += 1
+            textures[texture] = textures.get(texture, 0) + len(points)
+    for texture, points in textures.items():
+        text += f"texture {texture} points {points}\n"
     return text + f"total {len(meshes)} {count} {first}\n"
 
 
@@ -153,6 +156,11 @@ m1 = mesh(*SMALL)
 save("m1", m1, listing([SMALL[2]]))
 save("empty", b"", listing([]))
 save("two_eyes", mesh(*left) + mesh(*right), listing([left[2], right[2]]))
+again = ([0, ONE], SMALL[1], [(5, 0, [0]), (0, 0, [0, 1]), (5, 1, [2])])
+once = ([0, ONE], SMALL[1], [(0, 2, [0, 1, 2])])
+save("textures", mesh(*again) + mesh(*once), listing([again[2], once[2]]))
+every = ([0, ONE], SMALL[1], [(255 - t, t % 4, [0] * (1 + t % 7)) for t in range(256)])
+save("all_textures", mesh(*every), listing([every[2]]))
 save("skipped", box(b"free", b"anything") + mesh(*SMALL, free=1) + box(b"mdat", m1) + b"\xff" * 7, listing([SMALL[2]]))
 save("damaged", mesh(*left)[:-2] + b"\xff\xff" + mesh(*right), "refused 8\n")
 save("refused_2", bytes(16385), "refused 2\n")

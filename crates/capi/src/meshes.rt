@@ -18,6 +18,7 @@ ghost use Rattle.bits.specs.Verdict.{accepted, mapped, limited};
 ghost use Rattle.payload.specs.Lent.{inItems, answerFor, buffersAfter, atEntry};
 ghost use Rattle.payload.specs.MeshRead.{readMeshes};
 ghost use Rattle.payload.specs.Meshes.{listSize, measuredSays, meshesPlan, meshesSays, recordsPlan, recordsSays};
+ghost use Rattle.payload.specs.Textures.{texturesFound};
 ghost use Rattle.payload.specs.Tables.{tableLengths, bodyRead, tableLengthsSays, tablesPlan, tablesSays};
 ghost use Rattle.payload.specs.MeshWrite.{meshWritten};
 ghost use Rattle.capi.specs.Answer.{codeOf, wordsAfter, one, three};
@@ -127,6 +128,18 @@ pub extern "C" fn capi_mesh_records(payload: &[u8], records: &mut [u32], words: 
         ≡ buffersAfter (recordsPlan (now (payload .entry))) (atEntry (records ∷ [])) ⌝ }
 {
     hand_out(words, of_records(payload::mesh_records(payload, records)))
+}
+
+#[no_mangle]
+pub extern "C" fn capi_texture_points(payload: &[u8], out: &mut [u32], words: &mut [u64]) -> i64
+    ensures answer { λ r. ⌜ r ≡ codeOf (mapped one
+        (answerFor (inItems 2 (texturesFound (now (payload .entry)))) (atEntry (out ∷ [])))) ⌝ }
+    ensures words { λ _. ⌜ now (words .exit) ≡ wordsAfter (now (words .entry)) (mapped one
+        (answerFor (inItems 2 (texturesFound (now (payload .entry)))) (atEntry (out ∷ [])))) ⌝ }
+    ensures buffers { λ _. ⌜ now (out .exit) ∷ []
+        ≡ buffersAfter (inItems 2 (texturesFound (now (payload .entry)))) (atEntry (out ∷ [])) ⌝ }
+{
+    hand_out(words, of_filled(payload::texture_points(payload, out)))
 }
 
 #[no_mangle]

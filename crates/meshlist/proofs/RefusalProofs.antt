@@ -10,9 +10,9 @@ use Rattle.bits.specs.Refusals.{Refuses, refuses}
 use Rattle.bits.proofs.VerdictLaws.{le-or-lt, limited-yes}
 use Rattle.bits.proofs.RefusalLaws.{remade, unlisted}
 use Rattle.payload.specs.MeshRead.{readMeshes}
-use Rattle.payload.specs.Meshes.{listSize, listCounts}
+use Rattle.payload.specs.Meshes.{listSize}
 use Rattle.payload.proofs.Theorems.{refusals}
-use Rattle.meshlist.specs.Listing.{listing}
+use Rattle.meshlist.specs.Listing.{lineCounts, listing}
 use Rattle.meshlist.specs.Refusals.{ListingRefusals, NeverSixteen}
 use Rattle.meshlist.proofs.ListingLaws.{too-long, listed-is}
 
@@ -22,7 +22,7 @@ listing-refusals s = go (le-or-lt (length s) 16384)
     go : (length s ≤ 16384) ⊎ (16384 < length s) → Refuses (2 ∷ 3 ∷ 6 ∷ 7 ∷ 8 ∷ []) (listing s)
     go (inl h) =
         rw (sym (sym (limited-yes s (readMeshes s) (omega arith)) ∙ listed-is s h))
-        (remade listSize listCounts (readMeshes s)
+        (remade listSize lineCounts (readMeshes s)
         (rw (limited-yes s (mapped listSize (readMeshes s)) (omega arith)) at (refusals .measure-meshes s)))
     go (inr h) = rw (too-long s h) (refuses 2 refl)
 

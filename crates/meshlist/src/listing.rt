@@ -2,14 +2,16 @@
 use crate::print::print_heading;
 use crate::print::print_record;
 use crate::print::print_refusal;
+use crate::print::print_texture;
 use crate::print::print_total;
+use payload::Filled;
 use payload::RecordsAnswer;
 ghost use mathlib.Core.Path.{_≡_};
 ghost use mathlib.Core.List.{[], _∷_};
 ghost use Prim.Native.Nat.{_*_, _≤_};
 ghost use lib.ListN.{length};
 ghost use Rattle.payload.specs.Lent.{buffersAfter, atEntry};
-ghost use Rattle.meshlist.specs.Listing.{listingSays, listing, listingPlan, lineCount};
+ghost use Rattle.meshlist.specs.Listing.{listingSays, listing, listingPlan, recordLines, textureLines};
 
 // The counts of the list, or the number of the refusal.
 pub enum Listing {
@@ -17,18 +19,20 @@ pub enum Listing {
         meshes: usize,
         submeshes: usize,
         points: usize,
+        textures: usize,
     },
     Refused(u8),
 }
 
-// The records of a payload of at most 16,384 bytes. A submesh takes 48 bits or more, so a buffer of 5 words for each of
-// 2,730 is long enough.
-fn list_records(payload: &[u8], records: &mut [u32]) -> Listing
-    requires { ⌜ 13650 ≤ length (now records) ⌝ }
+// The records and the textures of a payload of at most 16,384 bytes. A submesh takes 48 bits or more, so 5 words for
+// each of 2,730 are long enough; a texture is a byte, so 512 words hold them all.
+fn list_payload(payload: &[u8], records: &mut [u32], textures: &mut [u32]) -> Listing
+    requires { ⌜ (13650 ≤ length (now records)) × (512 ≤ length (now textures)) ⌝ }
     ensures answer { λ r. ⌜ listingSays r ≡ listing (now (payload .entry)) ⌝ }
-    ensures lines { λ r. ⌜ 5 * lineCount r ≤ length (now (records .exit)) ⌝ }
-    ensures buffers { λ _. ⌜ now (records .exit) ∷ []
-        ≡ buffersAfter (listingPlan (now (payload .entry))) (atEntry (records ∷ [])) ⌝ }
+    ensures lines { λ r. ⌜ (5 * recordLines r ≤ length (now (records .exit)))
+        × (2 * textureLines r ≤ length (now (textures .exit))) ⌝ }
+    ensures buffers { λ _. ⌜ now (records .exit) ∷ now (textures .exit) ∷ []
+        ≡ buffersAfter (listingPlan (now (payload .entry))) (atEntry (records ∷ textures ∷ [])) ⌝ }
 {
     if 16_384 < payload.len() {
         return Listing::Refused(2);
@@ -38,10 +42,16 @@ fn list_records(payload: &[u8], records: &mut [u32]) -> Listing
             meshes,
             submeshes,
             points,
-        } => Listing::Counts {
-            meshes,
-            submeshes,
-            points,
+        } => match payload::texture_points(payload, textures) {
+            Filled::Count(n) => Listing::Counts {
+                meshes,
+                submeshes,
+                points,
+                textures: n,
+            },
+            // never: the records were read, and the buffer is long enough
+            Filled::Declined(k) => Listing::Refused(k),
+            Filled::Needs(_) => Listing::Refused(12),
         },
         RecordsAnswer::Declined(k) => Listing::Refused(k),
         // never: the buffer is long enough
@@ -71,17 +81,36 @@ fn print_records(records: &[u32], count: usize) -> bool
     true
 }
 
+// Prints the first textures of those in `textures`, each with its points.
+fn print_textures(textures: &[u32], count: usize) -> bool
+    requires { ⌜ 2 * count ≤ length (now textures) ⌝ }
+{
+    let mut left = count;
+    let mut at: usize = 0;
+    while 0 < left {
+        if !print_texture(textures[at], textures[at + 1]) {
+            return false;
+        }
+        at += 2;
+        left -= 1;
+    }
+    true
+}
+
 // Prints the listing of a payload, and answers whether all of it was written.
 pub fn list(payload: &[u8]) -> bool {
     let mut records = [0u32; 13650];
-    match list_records(payload, &mut records) {
+    let mut words = [0u32; 512];
+    match list_payload(payload, &mut records, &mut words) {
         Listing::Refused(number) => print_refusal(number),
         Listing::Counts {
             meshes,
             submeshes,
             points,
+            textures,
         } => print_heading()
             && print_records(&records, submeshes)
+            && print_textures(&words, textures)
             && print_total(meshes, submeshes, points),
     }
 }

@@ -1,6 +1,7 @@
 // Lists the submeshes of a mesh list (kind 2), which comes as raw bytes on standard input: a heading, the five words
-// of each submesh's record and the totals, or only the number of the refusal. Started with an argument, it says how it
-// is used and reads nothing, since whoever names a file would wait for an input that never comes.
+// of each submesh's record, each texture with its points, and the totals, or only the number of the refusal. Started
+// with an argument, it says how it is used and reads nothing, since whoever names a file would wait for an input that
+// never comes.
 mod input;
 mod listing;
 mod print;

@@ -23,6 +23,14 @@ pub fn print_record(mesh: u32, texture: u32, mode: u32, first: u32, points: u32)
         && print_word(points, b'\n')
 }
 
+// A texture and the points of its records together.
+pub fn print_texture(texture: u32, points: u32) -> bool {
+    io::write_all(STDOUT_FILENO, b"texture ")
+        && print_word(texture, b' ')
+        && io::write_all(STDOUT_FILENO, b"points ")
+        && print_word(points, b'\n')
+}
+
 pub fn print_total(meshes: usize, submeshes: usize, points: usize) -> bool {
     io::write_all(STDOUT_FILENO, b"total ")
         && print_number(meshes as u64, b' ')

@@ -107,7 +107,7 @@ same-turns s (suc f) (suc g) p h k =
     go (declined j) e i = refl
 
 module _ (s : List ℕ) (p : ℕ) where
-  from-header : readFrom s p ≡ andThen (headerAt s p) (readItem s (readFrom s))
+  pub from-header : readFrom s p ≡ andThen (headerAt s p) (readItem s (readFrom s))
   unfolding readFrom readBoxes
   from-header = same-turns s (length s) (suc (length s)) p (omega arith) (omega arith)
 

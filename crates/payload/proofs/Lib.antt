@@ -35,6 +35,12 @@ pub mod HeadLaws
 pub mod DrawLaws
 pub mod ExpandedLaws
 pub mod RecordLaws
+pub mod PlaceLaws
+pub mod FirstsLaws
+pub mod TextureLaws
+pub mod TallyLaws
+pub mod TextureProofs
+pub mod TextureMarked
 pub mod TableLaws
 pub mod PackedLaws
 pub mod WriterLaws

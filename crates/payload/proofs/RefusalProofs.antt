@@ -32,6 +32,7 @@ use Rattle.payload.specs.MeshWrite.{isMesh, meshWritten}
 use Rattle.bits.specs.Refusals.{among, Refuses, gives, refuses, RefusesOr12, Claim}
 use Rattle.bits.proofs.RefusalLaws.{then-refuses, mapped-refuses, cond-refuses, within-refuses, limited-refuses, complete-refuses, run-refuses, header-refuses}
 use Rattle.bits.proofs.RefusalLaws.{unlisted, unlisted-12}
+use Rattle.payload.specs.Textures.{texturesFound}
 use Rattle.payload.specs.Refusals.{EachCall, Refusals, NeverSixteen}
 use Rattle.payload.proofs.LentLaws.{answer-refuses}
 use Rattle.payload.proofs.CropProofs.{full-usable}
@@ -180,7 +181,7 @@ counted-refuses n = within-refuses (n + 1) (2 ^ 64) n 14 refl
 -- ---- the calls
 
 pub refusals : Refusals
-unfolding equiWritten cbmpWritten meshWritten indexCount
+unfolding texturesFound equiWritten cbmpWritten meshWritten indexCount
 refusals =
     record {
       parse-equi = λ s. limited-refuses s refl (mapped-refuses withCrop (equi-refuses refl refl refl s));
@@ -195,6 +196,9 @@ refusals =
       mesh-records = λ s buffers.
           answer-refuses buffers
           (mapped-refuses recordedMeshes (limited-refuses s refl (meshes-refuses refl refl refl refl s)));
+      texture-points = λ s buffers.
+          items-refuses 2 buffers
+          (mapped-refuses _ (limited-refuses s refl (meshes-refuses refl refl refl refl s)));
       sphere-indices-bounded = λ rings sectors b buffers. items-refuses 1 buffers (numbers-refuses rings sectors b);
       sphere-indices = λ rings sectors buffers. items-refuses 1 buffers (full-refuses rings sectors);
       sphere-uvs = λ rings sectors buffers. items-refuses 2 buffers (uvs-refuses refl rings sectors);
@@ -230,6 +234,7 @@ map-calls plain or-12 calls =
       parse-mesh = λ s buffers. or-12 _ _ _ refl (calls .parse-mesh s buffers);
       parse-meshes = λ s buffers. or-12 _ _ _ refl (calls .parse-meshes s buffers);
       mesh-records = λ s buffers. or-12 _ _ _ refl (calls .mesh-records s buffers);
+      texture-points = λ s buffers. or-12 _ _ _ refl (calls .texture-points s buffers);
       sphere-indices-bounded = λ rings sectors b buffers. or-12 _ _ _ refl (calls .sphere-indices-bounded rings sectors b buffers);
       sphere-indices = λ rings sectors buffers. or-12 _ _ _ refl (calls .sphere-indices rings sectors buffers);
       sphere-uvs = λ rings sectors buffers. or-12 _ _ _ refl (calls .sphere-uvs rings sectors buffers);

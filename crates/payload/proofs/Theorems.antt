@@ -20,6 +20,7 @@ use Rattle.payload.specs.Mesh.{Mesh}
 use Rattle.payload.specs.MeshRead.{readMeshes}
 use Rattle.payload.specs.MeshDrawing.{drawnNumbers, drawnFloats, drawnRecords, submeshTotal, pointTotal}
 use Rattle.payload.specs.Meshes.{listSize}
+use Rattle.payload.specs.TextureLaws.{RecordTextures, TexturesRead}
 use Rattle.payload.specs.Laws.{EquiReads, EquiWrites, CbmpReads, CbmpWrites}
 use Rattle.payload.specs.Laws.{MeshesReads, MeshReads, MeshWrites, TablesRead}
 use Rattle.payload.specs.WrittenLaws.{EquiWritesInto, CbmpWritesInto, MeshWritesInto}
@@ -31,6 +32,7 @@ use Rattle.payload.specs.CropMarked.{CropMarked}
 use Rattle.payload.specs.SphereMarked.{SphereMarked}
 use Rattle.payload.specs.CubeMarked.{CubeMarked}
 use Rattle.payload.specs.MeshMarked.{MeshMarked}
+use Rattle.payload.specs.TextureMarked.{TextureMarked}
 use Rattle.payload.specs.declared.crop.Bounds.{Bounds}
 use Rattle.payload.specs.declared.equi.EquiFields.{EquiFields}
 use Rattle.payload.proofs.FillLaws as fill
@@ -47,6 +49,8 @@ use Rattle.payload.proofs.MeshTheorems as meshes
 use Rattle.payload.proofs.MeshWriteProofs as writing
 use Rattle.payload.proofs.WrittenProofs as written
 use Rattle.payload.proofs.MeasureLaws as measure
+use Rattle.payload.proofs.TextureProofs as texture
+use Rattle.payload.proofs.TextureMarked as texture-cases
 use Rattle.payload.proofs.RefusalProofs as refusal
 use Rattle.payload.proofs.NanProofs as nan
 
@@ -101,6 +105,14 @@ pub map-calls : {P O P′ O′ : Claim}
     → EachCall P O → EachCall P′ O′
 map-calls = refusal.map-calls
 
+-- ---- the points of each texture, of specs/TextureLaws.antt
+
+pub record-textures : RecordTextures
+record-textures = texture.record-textures
+
+pub textures-read : TexturesRead
+textures-read = texture.textures-read
+
 -- ---- where a float is a number, of specs/NanLaws.antt
 
 pub nan-laws : NanLaws
@@ -115,6 +127,9 @@ share-laws = share.share-laws
 
 pub mesh-marked : MeshMarked
 mesh-marked = mesh.mesh-marked
+
+pub texture-marked : TextureMarked
+texture-marked = texture-cases.texture-marked
 
 pub crop-marked : CropMarked
 crop-marked = crop.crop-marked

@@ -26,6 +26,7 @@ use Rattle.payload.specs.declared.mesh.measure.MeshListSize.{MeshListSiz
 use Rattle.payload.proofs.FillLaws.{sets-after}
 use Rattle.payload.proofs.PayloadLaws.{limited-value, limited-mapped}
 use Rattle.bits.proofs.RunLaws.{spells-run}
+use Rattle.bits.proofs.FieldLaws.{field-lt}
 use Rattle.payload.proofs.StepLaws.{read-value}
 use Rattle.payload.proofs.RangeLaws.{many-on}
 use Rattle.payload.proofs.SubmeshLaws.{submesh-spells}
@@ -121,6 +122,7 @@ taken s all a b k w S o ea eb ek ew = rw ew (go (submesh-turn s v m (all .left) 
         λ i. record { texture = (sym (T .texture) ∙ sym ea) i; mode = (sym (T .mode) ∙ sym eb) i; points = sym p i } in
         record {
           is = T .is ∙ rw e;
+          byte = omega (arith, ea, field-lt s (all .bit) 8);
           run = record { short = S .short; low = omega (arith, S .low); some = S .some; most = S .most; points = T .some; read = rw (T .run) tt };
           rest = record { short = S .short; low = omega (arith, S .low); some = S .some; most = S .most; read = T .rest };
           count = T .count ∙ ap length (sym p);

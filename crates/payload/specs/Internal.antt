@@ -105,6 +105,7 @@ takenSubmesh s r = record { texture = r .texture; mode = r .mode; points = point
 -- the first of some submeshes was taken
 pub record Taken (s : List ℕ) (all : Submeshes) (r : NextSubmesh) : Type 0 where
   pub is : submeshesOf s all ≡ takenSubmesh s r ∷ submeshesOf s (r .rest)
+  pub byte : r .texture < 256
   pub run : PointsThere s (r .run)
   pub rest : SubmeshesThere s (r .rest)
   pub count : r .run .count ≡ length (pointsOf s (r .run))

@@ -15,6 +15,7 @@ use Rattle.payload.specs.Cube.{cubeNumbers, cubeFloats}
 use Rattle.payload.specs.Count.{vertexCount, indexCount, cubemapVertexCount, cubemapIndexCount}
 use Rattle.payload.specs.MeshRead.{readMeshes}
 use Rattle.payload.specs.Meshes.{listSize, meshesPlan, recordsPlan}
+use Rattle.payload.specs.Textures.{texturesFound}
 use Rattle.payload.specs.Tables.{tableLengths, bodyRead, tablesPlan}
 use Rattle.payload.specs.MeshWrite.{meshWritten}
 use Rattle.payload.specs.declared.crop.Bounds.{Bounds}
@@ -35,6 +36,8 @@ pub record EachCall (Plain Or12 : Claim) : Type 0 where
       → Or12 _ (2 ∷ 3 ∷ 6 ∷ 7 ∷ 8 ∷ []) (answerFor (meshesPlan s) buffers)
   pub mesh-records : (s : List ℕ) (buffers : List (List ℕ))
       → Or12 _ (2 ∷ 3 ∷ 6 ∷ 7 ∷ 8 ∷ []) (answerFor (recordsPlan s) buffers)
+  pub texture-points : (s : List ℕ) (buffers : List (List ℕ))
+      → Or12 _ (2 ∷ 3 ∷ 6 ∷ 7 ∷ 8 ∷ []) (answerFor (inItems 2 (texturesFound s)) buffers)
   -- the sphere and the cube
   pub sphere-indices-bounded : (rings sectors : ℕ) (b : Bounds) (buffers : List (List ℕ))
       → Or12 _ (9 ∷ 10 ∷ []) (answerFor (inItems 1 (sphereNumbers rings sectors b)) buffers)

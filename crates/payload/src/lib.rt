@@ -52,6 +52,7 @@ pub use mesh::measure_meshes;
 pub use mesh::mesh_records;
 pub use mesh::parse_mesh;
 pub use mesh::parse_meshes;
+pub use mesh::texture_points;
 pub use mesh::write_mesh;
 pub use sphere::sphere_indices;
 pub use sphere::sphere_indices_bounded;

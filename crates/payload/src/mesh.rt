@@ -5,10 +5,12 @@ mod fields;
 mod head;
 mod judge;
 mod measure;
+mod places;
 mod points;
 mod records;
 mod submeshes;
 mod tables;
+mod textures;
 mod vertices;
 mod write;
 
@@ -25,6 +27,7 @@ pub use records::RecordsAnswer;
 pub use records::mesh_records;
 pub use tables::TablesAnswer;
 pub use tables::parse_mesh;
+pub use textures::texture_points;
 pub use write::write_mesh;
 
 // 'mesh', the type of a mesh box.

@@ -28,7 +28,7 @@ pub enum Outcome {
 }
 
 // The numbers of the calls are below this. 0 is that of a line that cannot be read.
-pub const CALLS: usize = 63;
+pub const CALLS: usize = 64;
 
 // The words that are lent, as they are before a call.
 const WORDS: [u64; 8] = [0xa5a5_a5a5_a5a5_a5a5; 8];
@@ -122,7 +122,7 @@ fn lend_numbers(call: usize, args: &[u64; 10], data: &[u8], length: u64) -> Outc
     call_numbers(call, args, data, &mut out[..n])
 }
 
-// The calls that make floats or records alone.
+// The calls that make floats, records or textures alone.
 fn answer_u32s(call: usize, args: &[u64; 10], data: &[u8], out: &mut [u32]) -> Outcome {
     let mut words = WORDS;
     let r = call_u32s(call, args, data, out, &mut words);
@@ -138,6 +138,7 @@ fn call_u32s(
 ) -> i64 {
     match call {
         0x22 => meshes::records(data, out, words),
+        0x3f => meshes::textures(data, out, words),
         _ => grids::floats(call, args, out, words),
     }
 }
@@ -229,7 +230,7 @@ pub fn call(call: usize, args: &[u64; 10], data: &[u8]) -> Outcome {
         0x37 => lend_numbers(call, args, data, args[3]),
         0x1c => lend_u32s(call, args, data, args[2], 4096),
         0x1e => lend_u32s(call, args, data, args[3], 4096),
-        0x22 => lend_u32s(call, args, data, args[0], 512),
+        0x22 | 0x3f => lend_u32s(call, args, data, args[0], 512),
         0x21 => lend_drawing(call, args, data, args[0], args[1], args[2]),
         0x25 => lend_drawing(call, args, data, args[6], args[7], args[8]),
         0x23 | 0x24 => meshes::mesh_body(call, args, data),

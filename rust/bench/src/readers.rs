@@ -12,11 +12,13 @@ const RUNS: usize = 15;
 const ONE_LARGE: usize = 2 << 20;
 /// The words of its four records.
 const RECORDS: usize = 20;
+/// The words of all textures.
+const TEXTURES: usize = 512;
 /// The bytes before a box's body.
 const HEADER: usize = 8;
 
 const HEADING: [&str; 4] = [
-    "one large mesh of four submeshes, small steps; the Rust has no call for lengths or records",
+    "one large mesh of four submeshes, small steps; the Rust has no call for lengths, records or textures",
     "alone, and its side is parse_meshes; for parse_mesh both sides read the body, ours into four",
     "warm tables of exactly the needed lengths with its measuring pass, the Rust's into vectors of",
     "its own with the points followed to their five words; medians of the runs, ratio = ours / rust",
@@ -47,6 +49,13 @@ pub fn table() -> Result<(), String> {
         vec![0; RECORDS],
         rust_list,
         |payload, lent| recorded(payload, lent),
+    )?;
+    row(
+        "texture_points",
+        &payload,
+        vec![0; TEXTURES],
+        rust_list,
+        |payload, lent| textured(payload, lent),
     )?;
     let body = &payload[HEADER..];
     let tables = needed(body).ok_or("not measured: parse_mesh")?;
@@ -104,6 +113,13 @@ fn recorded(payload: &[u8], lent: &mut [u32]) -> Option<u64> {
     let mut words = [0; 3];
     let code = hoodsorrel::raw::mesh_records(payload, lent, &mut words);
     (code == 3).then_some(words[2])
+}
+
+fn textured(payload: &[u8], lent: &mut [u32]) -> Option<u64> {
+    let mut words = [0];
+    let code = hoodsorrel::raw::texture_points(payload, lent, &mut words);
+    let textures = lent.chunks_exact(2).take(words[0] as usize);
+    (code == 1).then(|| textures.map(|texture| u64::from(texture[1])).sum())
 }
 
 /// Tables of the lengths that are asked for on empty ones.

@@ -48,7 +48,7 @@ pub mod viewer;
 
 pub use payload::{
     Bounds, Counts, EquiFields, EquiReading, GridLengths, MeshListSize, MeshTables, Record,
-    TableLengths,
+    TableLengths, TexturePoints,
 };
 pub use refusal::{Needed, Refusal};
 pub use scene::{Drawing, Given, Lengths, Named, Scene, SceneAnswer};

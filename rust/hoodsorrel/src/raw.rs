@@ -146,6 +146,7 @@ calls! {
 calls! {
     capi_measure_meshes as measure_meshes(payload: &[u8], words: &mut [u64]);
     capi_mesh_records as mesh_records(payload: &[u8], records: &mut [u32], words: &mut [u64]);
+    capi_texture_points as texture_points(payload: &[u8], out: &mut [u32], words: &mut [u64]);
     capi_measure_mesh as measure_mesh(body: &[u8], words: &mut [u64]);
     capi_parse_mesh as parse_mesh(body: &[u8], pool: &mut [u32], coordinates: &mut [u16],
         submeshes: &mut [u32], points: &mut [u16], words: &mut [u64]);

@@ -62,6 +62,7 @@ fn makers() {
     one(0xA5A5, 36, |out| cubemap_indices(1, out));
     one(9.5, 120, |out| cubemap_mesh(1, 2.0, 0.25, out));
     one(0xA5A5_A5A5, 5, |out| mesh_records(&LIST, out));
+    one(0xA5A5_A5A5, 2, |out| texture_points(&LIST, out));
 }
 
 /// What is put at a place leaves the bytes before it as well.

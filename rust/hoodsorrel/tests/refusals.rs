@@ -184,11 +184,13 @@ fn meshes(met: &mut Met) {
             viewer::measure_meshes(&list),
         );
         met.refused("mesh_records", number, mesh_records(&list, &mut []));
+        met.refused("texture_points", number, texture_points(&list, &mut []));
         let answer = parse_meshes(&list, &mut [], &mut [], &mut []);
         met.refused("parse_meshes", number, answer);
     }
     let good = boxed(&good_body());
     met.refused("mesh_records", 12, mesh_records(&good, &mut []));
+    met.refused("texture_points", 12, texture_points(&good, &mut []));
     met.refused(
         "parse_meshes",
         12,

@@ -3,7 +3,7 @@
 use std::fs;
 use std::path::{Path, PathBuf};
 
-use hoodsorrel::payload::{measure_meshes, mesh_records};
+use hoodsorrel::payload::{TexturePoints, measure_meshes, mesh_records, texture_points};
 use hoodsorrel::scene::{CBMP, EQUI, MESHES};
 use hoodsorrel::{Bounds, Counts, Drawing, Given, Named, Record, Refusal, viewer};
 
@@ -46,6 +46,11 @@ fn listing(payload: &[u8]) -> String {
                     r.mesh, r.texture, r.mode, r.first, r.points
                 );
             }
+            let mut textures = [0; 512];
+            let count = texture_points(payload, &mut textures).expect("as the drawing");
+            for t in TexturePoints::all(&textures[..2 * count]) {
+                text += &format!("texture {} points {}\n", t.texture, t.points);
+            }
             let Named::Meshes(counts) = drawing.named else {
                 panic!("no mesh list: {:?}", drawing.named);
             };
@@ -71,7 +76,8 @@ fn every_reader_of_every_list() {
         let drawing = Drawing::of(MESHES, &payload, &Given::default());
         let refusal = drawing.as_ref().err().copied();
         assert_eq!(measure_meshes(&payload).err(), refusal);
-        assert_eq!(mesh_records(&payload, &mut [0; 1000]).err(), refusal);
+        assert_eq!(mesh_records(&payload, &mut [0; 2000]).err(), refusal);
+        assert_eq!(texture_points(&payload, &mut [0; 512]).err(), refusal);
         assert_eq!(viewer::measure_meshes(&payload).err(), refusal);
         if let Ok(drawing) = drawing {
             let size = measure_meshes(&payload).expect("as the drawing");

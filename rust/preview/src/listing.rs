@@ -12,20 +12,20 @@ const HEADING: &str = "mesh texture mode first points";
 const SHOWN: usize = COLOURS;
 
 pub enum Listing<'a> {
-    Records(&'a [u32], &'a Counts),
+    /// Records, and each texture with its points.
+    Records(&'a [u32], &'a [u32], &'a Counts),
     /// Names with their values, and how many bytes were not read.
     Values(Vec<(&'static str, String)>, u64),
 }
 
 impl Listing<'_> {
-    /// The whole listing, the words of a line separated by one space. Records are as `meshlist` prints them.
+    /// The whole listing, the words of a line separated by one space. Of a mesh list it is the one that `meshlist` prints.
     pub fn text(&self) -> String {
         match self {
-            Listing::Records(records, counts) => {
-                let lines = records
-                    .chunks_exact(RECORD)
-                    .map(record_line)
-                    .collect::<String>();
+            Listing::Records(records, textures, counts) => {
+                let lines = records.chunks_exact(RECORD).map(record_line);
+                let lines = lines.chain(textures.chunks_exact(2).map(texture_line));
+                let lines = lines.collect::<String>();
                 let Counts {
                     meshes,
                     submeshes,
@@ -44,7 +44,7 @@ impl Listing<'_> {
 
     pub fn table(&self) -> Table {
         match self {
-            Listing::Records(records, counts) => records_table(records, counts),
+            Listing::Records(records, _, counts) => records_table(records, counts),
             Listing::Values(values, unread) => values_table(values, *unread),
         }
     }
@@ -58,6 +58,10 @@ pub fn not_read(bytes: u64) -> Option<String> {
 fn record_line(record: &[u32]) -> String {
     let words: Vec<String> = record.iter().map(u32::to_string).collect();
     format!("{}\n", words.join(" "))
+}
+
+fn texture_line(texture: &[u32]) -> String {
+    format!("texture {} points {}\n", texture[0], texture[1])
 }
 
 fn records_table(records: &[u32], counts: &Counts) -> Table {
@@ -132,12 +136,12 @@ mod tests {
     fn records_as_meshlist_prints_them() {
         let (two, counts) = records(2);
         assert_eq!(
-            Listing::Records(&two, &counts).text(),
-            "mesh texture mode first points\n0 1 0 0 300\n0 1 1 300 300\ntotal 1 2 600\n"
+            Listing::Records(&two, &[1, 600], &counts).text(),
+            "mesh texture mode first points\n0 1 0 0 300\n0 1 1 300 300\ntexture 1 points 600\ntotal 1 2 600\n"
         );
         let (none, counts) = records(0);
         assert_eq!(
-            Listing::Records(&none, &counts).text(),
+            Listing::Records(&none, &[], &counts).text(),
             "mesh texture mode first points\ntotal 1 0 0\n"
         );
     }
@@ -164,7 +168,7 @@ mod tests {
     #[test]
     fn the_page_names_columns_modes_and_totals() {
         let (five, counts) = records(5);
-        let svg = drawn(&Listing::Records(&five, &counts));
+        let svg = drawn(&Listing::Records(&five, &[], &counts));
         for words in ["mesh", "texture", "mode", "first", "points", "1,200"] {
             assert!(svg.contains(&format!(">{words}<")), "{words}");
         }
@@ -184,7 +188,7 @@ mod tests {
     fn the_page_shows_40_records() {
         let drawn = |submeshes| {
             let (records, counts) = records(submeshes);
-            drawn(&Listing::Records(&records, &counts))
+            drawn(&Listing::Records(&records, &[], &counts))
         };
         let squares = |svg: &str| svg.matches("stroke-width=\"0.5\"").count();
         assert_eq!(squares(&drawn(40)), 40);

@@ -44,7 +44,7 @@ fn listing(drawn: Drawn, scene: &Scene, unread: u64) -> Listing<'_> {
         Reading::Padding(padding) => {
             Listing::Values(cube::values(*padding, drawn.given, scene), unread)
         }
-        Reading::Meshes(counts) => Listing::Records(&scene.records, counts),
+        Reading::Meshes(counts) => Listing::Records(&scene.records, &scene.textures, counts),
     }
 }
 

@@ -1,6 +1,7 @@
 //! What the library reads of a payload, and its drawing. The library is called in this file alone.
 
 use hoodsorrel::display;
+use hoodsorrel::payload::texture_points;
 pub use hoodsorrel::Given;
 use hoodsorrel::{Drawing, Named, Needed, Refusal};
 
@@ -26,16 +27,31 @@ pub struct Scene {
     pub numbers: Vec<u16>,
     pub floats: Vec<f32>,
     pub records: Vec<u32>,
+    /// Of a mesh list, each texture with its points.
+    pub textures: Vec<u32>,
 }
 
 pub fn scene(kind: u32, payload: &[u8], given: Given) -> Result<Scene, String> {
     let drawing = Drawing::of(kind, payload, &given).map_err(why)?;
+    let textures = match drawing.named {
+        Named::Meshes(_) => textures(payload).map_err(why)?,
+        _ => Vec::new(),
+    };
     Ok(Scene {
         reading: Reading::of(drawing.named),
         numbers: drawing.numbers,
         floats: drawing.floats,
         records: drawing.records,
+        textures,
     })
+}
+
+/// Each texture and its points, two words: a texture is a byte, so that there are 256 at most.
+fn textures(payload: &[u8]) -> Result<Vec<u32>, Refusal> {
+    let mut words = vec![0; 512];
+    let count = texture_points(payload, &mut words)?;
+    words.truncate(2 * count);
+    Ok(words)
 }
 
 /// The points of a record's triangles, three by three, counted through the whole drawing; or nothing where its mode is

@@ -21,5 +21,6 @@ pub fn scene(mode: u32, points: &[[f32; POINT]]) -> Scene {
         numbers: Vec::new(),
         floats: points.iter().flatten().copied().collect(),
         records: vec![0, 0, mode, 0, points.len() as u32],
+        textures: vec![0, points.len() as u32],
     }
 }

@@ -136,6 +136,7 @@ mod tests {
             numbers: Vec::new(),
             floats: Vec::new(),
             records: Vec::new(),
+            textures: Vec::new(),
         };
         assert_eq!(notes(&empty, &counts(0), 0), ["no meshes"]);
     }

@@ -1,4 +1,4 @@
-// Calls 20 to 24 and 3a: mesh lists and mesh bodies.
+// Calls 20 to 24, 3a and 3f: mesh lists and mesh bodies.
 use super::Outcome;
 use super::WORDS;
 use super::arguments::answer_bits;
@@ -10,6 +10,7 @@ use capi::meshes::capi_measure_meshes;
 use capi::meshes::capi_mesh_records;
 use capi::meshes::capi_parse_mesh;
 use capi::meshes::capi_parse_meshes;
+use capi::meshes::capi_texture_points;
 use capi::meshes::capi_write_mesh;
 ghost use Prim.Native.Nat.{_≤_};
 
@@ -18,6 +19,10 @@ pub fn measure(call: usize, data: &[u8], words: &mut [u64]) -> i64 {
         0x20 => capi_measure_meshes(data, words),
         _ => capi_measure_mesh(data, words),
     }
+}
+
+pub fn textures(payload: &[u8], out: &mut [u32], words: &mut [u64]) -> i64 {
+    capi_texture_points(payload, out, words)
 }
 
 pub fn records(payload: &[u8], out: &mut [u32], words: &mut [u64]) -> i64 {

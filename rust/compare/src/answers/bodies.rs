@@ -8,7 +8,6 @@ use crate::inputs::random::Random;
 use crate::lent::tables::{lengths, refused_lengths};
 use crate::mesh::body::{agrees, measured, parsed, Due};
 use crate::mesh::damage::{damaged, every_bit, every_count, every_stray, stray};
-use crate::mesh::lists::MOST_SUBMESHES;
 use crate::mesh::model::parse_mesh;
 use crate::mesh::payloads::{self, m1, sized};
 
@@ -103,7 +102,7 @@ fn faults_of_m1() -> Vec<Vec<u8>> {
 fn due(body: &[u8]) -> Due {
     let model = parse_mesh(body);
     assert!(
-        model.most_submeshes > MOST_SUBMESHES || agrees(body, &model.reading),
+        model.beyond_rust(body) || agrees(body, &model.reading),
         "the Rust reads {body:02x?} otherwise"
     );
     model.reading.map(Tables::from)

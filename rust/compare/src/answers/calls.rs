@@ -23,7 +23,7 @@ const fn call(
 }
 
 /// The first one has number 1.
-pub const CALLS: [Call; 62] = [
+pub const CALLS: [Call; 63] = [
     call("byte_new", &[], "-", "words"),
     call("position", &["at"], "-", "words"),
     call("remaining", &["at"], "bytes", "words"),
@@ -173,4 +173,5 @@ pub const CALLS: [Call; 62] = [
         "records",
         "words numbers",
     ),
+    call("texture_points", &["textures"], "payload", "words textures"),
 ];

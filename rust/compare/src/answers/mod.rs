@@ -19,6 +19,7 @@ mod records;
 mod runs;
 mod scenes;
 mod spheres;
+mod textures;
 mod view;
 mod writer;
 
@@ -33,7 +34,7 @@ use line::List;
 type Group = (&'static str, fn(&mut List, &mut Random));
 
 /// Each takes random numbers of its own name.
-const GROUPS: [Group; 20] = [
+const GROUPS: [Group; 21] = [
     ("answers bytes", bytes::add),
     ("answers fields", fields::add),
     ("answers numbers", numbers::add),
@@ -54,6 +55,7 @@ const GROUPS: [Group; 20] = [
     ("answers lengths", lengths::add),
     ("answers measured", bodies::add_measured),
     ("answers records", records::add),
+    ("answers textures", textures::add),
 ];
 
 const SOURCE: &str = "\

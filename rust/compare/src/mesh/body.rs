@@ -11,7 +11,7 @@ use crate::lent::answer::Answer;
 use crate::lent::tables::{self, lengths, refused_lengths, Table};
 use crate::mesh::damage::{damaged, every_byte, every_stray, stray};
 use crate::mesh::drawing::Drawing;
-use crate::mesh::lists::{fits, LONGER, MOST_SUBMESHES};
+use crate::mesh::lists::{fits, LONGER};
 use crate::mesh::model::{self, Mesh};
 use crate::mesh::payloads::{self, large_counts, m1, sized};
 use crate::options::Options;
@@ -114,8 +114,9 @@ impl Bodies {
 
     fn check(&mut self, body: &[u8]) {
         let model = model::parse_mesh(body);
+        let beyond = model.beyond_rust(body);
         let reading = model.reading;
-        let tally = if model.most_submeshes > MOST_SUBMESHES || body.len() > LONGEST {
+        let tally = if beyond {
             &mut self.beyond
         } else {
             self.model

@@ -1,22 +1,20 @@
 //! Mesh lists: drawn, measured, and their records alone.
 
 use reference::mesh;
-use spell::{Part, Spelled, MESH};
+use spell::{Part, Spelled};
 
-use crate::inputs::payloads::{shown, LONGEST};
+use crate::inputs::payloads::shown;
 use crate::inputs::random::Random;
 use crate::lent::answer::Answer;
 use crate::lent::tables::{self, lengths, refused_lengths, Table};
 use crate::mesh::damage::{damaged, every_byte, every_size, every_stray_of, stray_of};
 use crate::mesh::drawing::Drawing;
 use crate::mesh::model;
-use crate::mesh::payloads::{large_counts, lone, m1, mesh, sized, List};
+use crate::mesh::payloads::{large_counts, lone, longest_of, m1, mesh, sized, List};
 use crate::options::Options;
 use crate::tally::Tally;
 
 const NAME: &str = "meshes";
-/// The Rust reserves memory for its submeshes first, and is not asked to read more than these.
-pub const MOST_SUBMESHES: u32 = 65_536;
 /// So many lists are damaged in every place.
 const LISTS: usize = 60;
 /// So many lists are taken with some damaged copies.
@@ -127,16 +125,8 @@ impl Lists {
     /// As long as a payload may be, and one byte longer: with a long box, and with a long mesh.
     fn longest(&mut self) {
         let mesh = m1();
-        let mut first = lone(&mesh);
-        self.check(&first);
-        let rest = LONGEST - first.len();
-        first.extend((rest as u32).to_be_bytes());
-        first.extend(b"free");
-        let mut second = (LONGEST as u32).to_be_bytes().to_vec();
-        second.extend(MESH);
-        second.extend(spell::body(&mesh).bytes);
-        for mut payload in [first, second] {
-            payload.resize(LONGEST, 0);
+        self.check(&lone(&mesh));
+        for mut payload in longest_of(&mesh) {
             self.check(&payload);
             payload.push(0);
             self.check(&payload);
@@ -145,9 +135,10 @@ impl Lists {
 
     fn check(&mut self, payload: &[u8]) {
         let model = model::parse_meshes(payload);
+        let beyond = model.beyond_rust(payload);
         let due = model.reading.map(|meshes| Drawing::of_model(&meshes));
         let random = &mut self.random;
-        if model.most_submeshes > MOST_SUBMESHES || payload.len() > LONGEST {
+        if beyond {
             parse(&mut self.beyond, random, payload, &due);
             measure(&mut self.beyond, payload, &due);
             records(&mut self.beyond, random, payload, &due);
@@ -165,8 +156,9 @@ impl Lists {
 /// asked.
 pub fn due(payload: &[u8]) -> Due {
     let model = model::parse_meshes(payload);
+    let beyond = model.beyond_rust(payload);
     let drawing = model.reading.map(|meshes| Drawing::of_model(&meshes));
-    if model.most_submeshes > MOST_SUBMESHES {
+    if beyond {
         return drawing;
     }
     rust(payload, &drawing)

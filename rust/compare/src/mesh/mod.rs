@@ -7,6 +7,7 @@ pub mod lists;
 pub mod model;
 pub mod payloads;
 pub mod spoils;
+pub mod textures;
 pub mod writer;
 pub mod writer_model;
 
@@ -15,5 +16,6 @@ use crate::Subject;
 pub const SUBJECTS: &[Subject] = &[
     ("mesh", body::run),
     ("meshes", lists::run),
+    ("textures", textures::run),
     ("mesh_writer", writer::run),
 ];

@@ -23,10 +23,20 @@ pub struct Mesh {
     pub submeshes: Vec<Submesh>,
 }
 
+/// The Rust reserves memory for its submeshes first, and is not asked to read more than these.
+pub const MOST_SUBMESHES: u32 = 65_536;
+
 /// What a reader has to answer, and the largest submesh count that it met.
 pub struct Model<T> {
     pub reading: Result<T, i64>,
     pub most_submeshes: u32,
+}
+
+impl<T> Model<T> {
+    /// Whether the Rust is not asked to read these bytes: it knows no longest payload.
+    pub fn beyond_rust(&self, bytes: &[u8]) -> bool {
+        self.most_submeshes > MOST_SUBMESHES || bytes.len() > LONGEST
+    }
 }
 
 pub fn parse_mesh(body: &[u8]) -> Model<Mesh> {

@@ -2,6 +2,7 @@
 
 use spell::{Mesh, Part, Spelled, Submesh, FIELDS, MESH};
 
+use crate::inputs::payloads::LONGEST;
 use crate::inputs::random::Random;
 
 /// NaN, infinite, subnormal and zero pool words.
@@ -163,6 +164,20 @@ pub fn m1() -> Mesh {
         free: 0,
         rest: Vec::new(),
     }
+}
+
+/// Lists that are as long as a payload may be: the mesh and a box to be skipped, and the mesh in a box of all bytes.
+pub fn longest_of(mesh: &Mesh) -> [Vec<u8>; 2] {
+    let mut boxed = lone(mesh);
+    boxed.extend(((LONGEST - boxed.len()) as u32).to_be_bytes());
+    boxed.extend(b"free");
+    let mut whole = (LONGEST as u32).to_be_bytes().to_vec();
+    whole.extend(MESH);
+    whole.extend(spell::body(mesh).bytes);
+    [boxed, whole].map(|mut list| {
+        list.resize(LONGEST, 0);
+        list
+    })
 }
 
 /// Counts of coordinates, of vertices and of the points of each submesh.

@@ -1,6 +1,6 @@
 //! Kind 2: a list of mesh boxes.
 
-use crate::answer::{Words, asked, size, words};
+use crate::answer::{Words, asked, size, word, words};
 use crate::raw;
 use crate::refusal::Refusal;
 use crate::scene::Lengths;
@@ -171,4 +171,47 @@ pub fn mesh_records(payload: &[u8], records: &mut [u32]) -> Result<Counts, Refus
     let [meshes, submeshes, points, ..] =
         words(|words| raw::mesh_records(payload, records, words))?;
     Ok(Counts::from_words([meshes, submeshes, points]))
+}
+
+/// A texture of a mesh list, and how much is drawn with it.
+#[derive(Clone, Copy, Debug, PartialEq, Eq)]
+pub struct TexturePoints {
+    /// Which texture: up to 255.
+    pub texture: u32,
+    /// The points of its submeshes together.
+    pub points: u32,
+}
+
+impl TexturePoints {
+    /// The textures that [`texture_points`] stores, two words each.
+    pub fn all(words: &[u32]) -> impl Iterator<Item = TexturePoints> {
+        let (pairs, _) = words.as_chunks();
+        pairs
+            .iter()
+            .map(|&[texture, points]| TexturePoints { texture, points })
+    }
+}
+
+/// Puts each texture that occurs in a mesh list and the points of its submeshes together into a buffer, two words each,
+/// in order of first appearance, and answers how many textures there are: at most 256, so 512 words are always enough.
+///
+/// Refused with 2, then 3, 6, 7 and 8 in payload order, then 12.
+///
+/// ```
+/// use hoodsorrel::payload::{texture_points, TexturePoints};
+/// use hoodsorrel::{Needed, Refusal};
+///
+/// // One coordinate and one vertex; three submeshes of 2, 3 and 1 points, with the textures 7, 5 and 7.
+/// let payload = [
+///     0, 0, 0, 0x2C, b'm', b'e', b's', b'h', 0, 0, 0, 1, 0x3F, 0, 0, 0, 0, 0, 0, 1, 0x00, 0, 0, 0, 3, 7, 0, 0, 0, 0,
+///     2, 0x01, 0x40, 0, 0, 0, 0, 0xC0, 0x38, 0, 0, 0, 0, 0x08,
+/// ];
+/// assert_eq!(texture_points(&payload, &mut []), Err(Refusal::BufferTooShort(Needed::One(4))));
+/// let mut words = [0; 4];
+/// assert_eq!(texture_points(&payload, &mut words), Ok(2));
+/// assert_eq!(words, [7, 3, 5, 3]);
+/// assert_eq!(TexturePoints::all(&words).next(), Some(TexturePoints { texture: 7, points: 3 }));
+/// ```
+pub fn texture_points(payload: &[u8], out: &mut [u32]) -> Result<usize, Refusal> {
+    word(|words| raw::texture_points(payload, out, words)).map(size)
 }

@@ -18,6 +18,10 @@ fn a_mesh_list_is_listed_as_stored_and_drawn() {
         ("m1", 1 + 3),
         ("two_eyes", 5 + 3 * 3),
         ("empty", 0),
+        // three have fewer than three points
+        ("textures", 1),
+        // and here 56 of the modes up to 2
+        ("all_textures", 200 + 3 * 200),
         ("dome", 10 + 3 * 5),
         ("globe", 40 + 3 * 40),
     ] {
