@@ -146,6 +146,8 @@ def save(name, payload, text):
 
 
 ONE = 0x3F800000
+INFINITY = 0x7F800000
+NAN = 0x7FC00000
 SMALL = ([0, ONE], [(0, 0, 0, 0, 0), (1, 0, 0, 1, 0), (0, 1, 0, 0, 1)], [(0, 0, [0, 1, 2])])
 
 left = ([0, ONE, 0xBF800000, 0x3F000000, 0x3E800000], [(1, 2, 2, 0, 0), (1, 1, 2, 3, 0), (2, 1, 2, 3, 1), (2, 2, 2, 0, 1)],
@@ -169,6 +171,8 @@ save("refused_6", m1[:-1], "refused 6\n")
 save("refused_6_size_1", (1).to_bytes(4, "big") + m1[4:], "refused 6\n")
 save("refused_7", m1[:8] + (0).to_bytes(4, "big") + m1[12:], "refused 7\n")
 save("refused_8", m1[:38] + b"\x0f" + m1[39:], "refused 8\n")
+save("refused_17", mesh([0, INFINITY], *SMALL[1:]), "refused 17\n")
+save("refused_17_undrawn", mesh([0, ONE, NAN], *SMALL[1:]), "refused 17\n")
 
 eyes = [dome(0, (0.49, 0.51), 0.0), dome(1, (0.52, 0.49), 0.06)]
 save("dome", b"".join(mesh(*eye) for eye in eyes), listing([eye[2] for eye in eyes]))

@@ -11,12 +11,12 @@ use Rattle.bits.proofs.VerdictLaws.{then-yes, then-no, then-value}
 use Rattle.payload.specs.Mesh.{Submesh, Mesh}
 use Rattle.bits.specs.Run.{zeros, Found, complete, readRun}
 use Rattle.payload.specs.MeshSpells.{aligned, verticesAt}
-use Rattle.payload.specs.MeshRead.{inRange, readSubmeshes, meshOf, afterVertices, afterVertexCount}
-use Rattle.payload.specs.MeshRead.{afterPool, afterPoolCount, readMesh}
-use Rattle.payload.specs.Internal.{readWords, afterCounts}
+use Rattle.payload.specs.MeshRead.{inRange, many, readWord, readSubmeshes, meshOf, afterVertices}
+use Rattle.payload.specs.MeshRead.{afterVertexCount, afterPool, afterPoolCount, readMesh}
+use Rattle.payload.specs.Internal.{readWords, PoolThere, afterCounts}
 use Rattle.bits.proofs.RunLaws.{complete-yes, complete-no}
-use Rattle.payload.proofs.RangeLaws.{inrange-low, inrange-high, inrange-yes, complete-then, complete-sooner}
-use Rattle.payload.proofs.RangeLaws.{found-same, words-read}
+use Rattle.payload.proofs.RangeLaws.{inrange-low, inrange-high, inrange-yes, found-same}
+use Rattle.payload.proofs.PoolLaws.{pool-yes, pool-value}
 
 -- ---- up to the vertices
 
@@ -39,41 +39,49 @@ module _ (s : List ℕ) where
   mesh-on n h e l u = complete-yes s 32 _ h ∙ rw e (inrange-yes 1 10000 n _ l u)
 
 module _ (s : List ℕ) (n : ℕ) where
-  -- the words and the vertex count are complete where the bits up to the vertices are there, and else 3 is said
-  pub pool-read : 32 ≤ 8 * length s
-      → afterPoolCount s n
-      ≡ complete s (verticesAt n)
-      (inRange 1 32000 (field s (32 * n + 32) 32) (afterCounts s n (field s (32 * n + 32) 32)))
-  unfolding afterPoolCount afterCounts
-  pool-read h =
-      ap (λ (v : Found (List ℕ)). andThen v (afterPool s n)) (words-read s n 32 h)
-      ∙ complete-then s (32 + 32 * n) (accepted (readWords s 32 n, 32 + 32 * n)) (afterPool s n)
-      ∙ complete-sooner s (32 + 32 * n) (32 + 32 * n + 32) _ (omega arith)
-      ∙ at (32 + 32 * n) (32 + 32 * n + 32) (omega arith) (omega arith)
-    where
-      at : (p q : ℕ) → p ≡ 32 * n + 32 → q ≡ verticesAt n
-          → complete s q (inRange 1 32000 (field s p 32) (afterVertexCount s n (readWords s 32 n) (field s p 32) q))
-          ≡ complete s (verticesAt n) (inRange 1 32000 (field s (32 * n + 32) 32)
-          (afterVertexCount s n (readWords s 32 n) (field s (32 * n + 32) 32) (verticesAt n)))
-      at p q a b = rw (a, b)
+  pub pool-declined : (k : ℕ) → many (readWord s) n 32 ≡ declined k → afterPoolCount s n ≡ declined k
+  unfolding afterPoolCount
+  pool-declined k e = then-no (many (readWord s) n 32) (afterPool s n) k e
 
-  pub pool-short : 32 ≤ 8 * length s → 8 * length s < verticesAt n → afterPoolCount s n ≡ declined 3
-  pool-short l h = pool-read l ∙ complete-no s (verticesAt n) _ h
+  -- a mesh that was read has a pool of good words
+  pub pool-accepted : (x : Mesh) (t : ℕ) → 32 ≤ 8 * length s → afterPoolCount s n ≡ accepted (x, t) → PoolThere s n
+  unfolding afterPoolCount
+  pool-accepted x t h e =
+      let l = then-value (many (readWord s) n 32) (afterPool s n) (x, t) e in
+      pool-value s n (l .0 .0) (l .0 .1) h (l .1)
 
-  module _ (h : verticesAt n ≤ 8 * length s) where
-    pool-there : afterPoolCount s n
-        ≡ inRange 1 32000 (field s (32 * n + 32) 32) (afterCounts s n (field s (32 * n + 32) 32))
-    pool-there = pool-read (omega arith) ∙ complete-yes s (verticesAt n) _ h
+  -- after the pool: the vertex count is complete where the bits up to the vertices are there, and else 3 is said
+  module _ (P : PoolThere s n) where
+    pub pool-read : afterPoolCount s n
+        ≡ complete s (verticesAt n)
+        (inRange 1 32000 (field s (32 * n + 32) 32) (afterCounts s n (field s (32 * n + 32) 32)))
+    unfolding afterPoolCount afterCounts
+    pool-read =
+        then-yes (many (readWord s) n 32) (afterPool s n) (readWords s 32 n, 32 + 32 * n) (pool-yes s n P)
+        ∙ at (32 + 32 * n) (32 + 32 * n + 32) (omega arith) (omega arith)
+      where
+        at : (p q : ℕ) → p ≡ 32 * n + 32 → q ≡ verticesAt n
+            → complete s q (inRange 1 32000 (field s p 32) (afterVertexCount s n (readWords s 32 n) (field s p 32) q))
+            ≡ complete s (verticesAt n) (inRange 1 32000 (field s (32 * n + 32) 32)
+            (afterVertexCount s n (readWords s 32 n) (field s (32 * n + 32) 32) (verticesAt n)))
+        at p q a b = rw (a, b)
 
-    pub pool-low : field s (32 * n + 32) 32 < 1 → afterPoolCount s n ≡ declined 7
-    pool-low l = pool-there ∙ inrange-low 1 32000 _ _ l
+    pub pool-short : 8 * length s < verticesAt n → afterPoolCount s n ≡ declined 3
+    pool-short h = pool-read ∙ complete-no s (verticesAt n) _ h
 
-    pub pool-high : 32000 < field s (32 * n + 32) 32 → afterPoolCount s n ≡ declined 7
-    pool-high l = pool-there ∙ inrange-high 1 32000 _ _ l
+    module _ (h : verticesAt n ≤ 8 * length s) where
+      pool-there : afterPoolCount s n
+          ≡ inRange 1 32000 (field s (32 * n + 32) 32) (afterCounts s n (field s (32 * n + 32) 32))
+      pool-there = pool-read ∙ complete-yes s (verticesAt n) _ h
 
-  pub pool-on : (m : ℕ) → verticesAt n ≤ 8 * length s → field s (32 * n + 32) 32 ≡ m → 1 ≤ m → m ≤ 32000
-      → afterPoolCount s n ≡ afterCounts s n m
-  pool-on m h e l u = pool-there h ∙ rw e (inrange-yes 1 32000 m _ l u)
+      pub pool-low : field s (32 * n + 32) 32 < 1 → afterPoolCount s n ≡ declined 7
+      pool-low l = pool-there ∙ inrange-low 1 32000 _ _ l
+
+      pub pool-high : 32000 < field s (32 * n + 32) 32 → afterPoolCount s n ≡ declined 7
+      pool-high l = pool-there ∙ inrange-high 1 32000 _ _ l
+
+      pub pool-on : (m : ℕ) → field s (32 * n + 32) 32 ≡ m → 1 ≤ m → m ≤ 32000 → afterPoolCount s n ≡ afterCounts s n m
+      pool-on m e l u = pool-there ∙ rw e (inrange-yes 1 32000 m _ l u)
 
 -- ---- from the vertices on
 

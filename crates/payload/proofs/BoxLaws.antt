@@ -15,6 +15,7 @@ use Rattle.bits.proofs.ByteLaws.{bytes-lt, field-bytesOf, length-bytes}
 use Rattle.bits.proofs.FieldLaws.{field-append, field-append-right, field-drop, field-inj, field-lt, field-take}
 use Rattle.bits.proofs.NumberLaws.{width-enough}
 use Rattle.payload.specs.Laws.{PlainBox}
+use Rattle.payload.specs.Float.{AllFinite}
 use Rattle.payload.specs.Mesh.{Mesh, Submesh}
 use Rattle.payload.specs.MeshSpells.{BoxesSpell, MeshSpells, MeshesSpell, WholeBox, bodyAt, endAt, ends, headerBytes}
 use Rattle.payload.specs.MeshSpells.{holds, meshType, part, sizeAt, sizes, skips, submeshBits, submeshesAt}
@@ -53,9 +54,10 @@ mesh-fit x h =
 
 -- ---- the fields stand where the layout has them
 
-pub mesh-in : (s : List ℕ) (x : Mesh) → Within x → submeshesEnd x ≤ 8 * length s → Laid s 0 (meshFields x) → MeshSpells s x
+pub mesh-in : (s : List ℕ) (x : Mesh) → Within x → AllFinite (x .pool) → submeshesEnd x ≤ 8 * length s
+    → Laid s 0 (meshFields x) → MeshSpells s x
 unfolding meshFields vertexFields bits
-mesh-in s x h r f =
+mesh-in s x h k r f =
     let n : ℕ = length (x .pool) in
     let m : ℕ = meshVertices x in
     let v : Laid s 0 (vertexFields x) = laid-left s 0 (vertexFields x) (tailFields x) f in
@@ -68,6 +70,7 @@ mesh-in s x h r f =
       pool-some = h .pool-some;
       pool-most = h .pool-most;
       pool-words = words-in s 32 (x .pool) (subst (λ (q : ℕ). Laid s q (wordFields (x .pool))) (omega arith) (laid-left s (0 + 32) (wordFields (x .pool)) (runOf x) (v .1)));
+      pool-finite = k;
       fives = h .fives;
       vertex-count = ap (λ (q : ℕ). field s q 32) (omega (arith, words-bits (x .pool))) ∙ u .0;
       vertex-some = h .vertex-some;
@@ -109,9 +112,9 @@ pub body-length : (x : Mesh) → length (meshBody x) ≡ (submeshesEnd x + 7) / 
 unfolding meshBody
 body-length x = packed-length (meshFields x) ∙ ap (λ (b : ℕ). (b + 7) / 8) (mesh-bits x)
 
-pub body-spells : (x : Mesh) → Within x → MeshSpells (meshBody x) x
+pub body-spells : (x : Mesh) → Within x → AllFinite (x .pool) → MeshSpells (meshBody x) x
 unfolding meshBody
-body-spells x h = mesh-in (meshBody x) x h (omega (arith, body-length x)) (packed-laid (meshFields x) (mesh-fit x h))
+body-spells x h k = mesh-in (meshBody x) x h k (omega (arith, body-length x)) (packed-laid (meshFields x) (mesh-fit x h))
 
 pub body-written : (s : List ℕ) (x : Mesh) → MeshSpells s x → Bytes s → field s (verticesEnd x) (submeshesAt x - verticesEnd x) ≡ 0
     → length s ≡ (submeshesEnd x + 7) / 8 → field s (submeshesEnd x) (8 * length s - submeshesEnd x) ≡ 0 → s ≡ meshBody x
@@ -169,12 +172,12 @@ module _ (x : Mesh) where
         ∙ take-all (boxSize x - headerBytes) (meshBody x) (omega (arith, body-length x, mesh-bits x)))
 
     -- the list of the mesh alone spells its box
-    pub box-spells : MeshesSpell (x ∷ []) (meshBox x)
-    box-spells =
+    pub box-spells : AllFinite (x .pool) → MeshesSpell (x ∷ []) (meshBox x)
+    box-spells k =
         let f = first-box (meshBox x) (boxSize x) box-size in
         let l = box-length in
         holds {p = 0} {x = x} {l = []} (record { header = omega arith; least = omega arith; most = omega arith }) box-type
-        (rw box-part (body-spells x h)) (ends {p = endAt (meshBox x) 0} (omega arith) (omega arith))
+        (rw box-part (body-spells x h k)) (ends {p = endAt (meshBox x) 0} (omega arith) (omega arith))
 
 -- ---- a plain box
 

@@ -1,7 +1,7 @@
 -- Judging four tables: the size by a formula, what the tests tell, and that they pass exactly where the tables are a mesh within the rules.
 use Prim.Native.Nat.{ℕ, suc, _+_, _*_, _/_, _%_, _^_, _≤_, _<_}
 use mathlib.Core.Path.{_≡_, refl, sym, ap, _∙_}
-use mathlib.Core.List.{List, [], _∷_}
+use mathlib.Core.List.{List, [], _∷_, List·Memᴰ·head, List·Memᴰ·tail}
 use mathlib.Core.Bool.{Bool, true, false, cond, not, _&&_, _||_}
 use mathlib.Core.Logic.{_⊎_, inl, inr}
 use native.Mathlib.Omega.{arith}
@@ -11,11 +11,13 @@ use lib.ListN.{length, getD, drop}
 use borrow.Author.Tests.{leb-true, eqb-true, ltb-true, le-leb, lt-leb, eq-eqb, lt-ltb, le-ltb}
 use Rattle.bits.specs.Number.{widthOf}
 use Rattle.bits.specs.Verdict.{accepted, declined, mapped}
-use Rattle.bits.proofs.VerdictLaws.{le-or-lt, tested-value}
+use Rattle.bits.proofs.VerdictLaws.{le-or-lt, both-true, tested-value}
 use Rattle.payload.specs.Laws.{Words32}
 use Rattle.payload.specs.Mesh.{Mesh}
-use Rattle.payload.specs.MeshWrite.{allBelow, boxSize, every, isMesh, meshBox, meshWritten, tablesMesh}
+use Rattle.payload.specs.Float.{finiteWord, AllFinite}
+use Rattle.payload.specs.MeshWrite.{allOf, allBelow, boxSize, every, isMesh, meshBox, meshWritten, tablesMesh}
 use Rattle.payload.specs.InternalWriting.{countsFit, lengthsFit, rowsFit, sizeOf}
+use Rattle.payload.proofs.AllLaws.{All, nil-all, cons-all}
 use Rattle.payload.proofs.BoxLaws.{box-length}
 use Rattle.payload.proofs.RangeLaws.{width-small, width-some}
 use Rattle.payload.proofs.MeshWriteLaws.{Under, Within, mesh-bits}
@@ -41,35 +43,59 @@ bits-most n v m q a b h i e f =
     let y : b ≤ 16 = rw f (width-small m (h .2)) in
     (mul-le-mul (h .1) x, mul-le-mul i y)
 
--- ---- numbers below a limit
+-- ---- a test of every number
 
-module _ (limit : ℕ) (l : List ℕ) (i : ℕ) where
-  pub all-on : (above : Bool) → i < length l → (not above && allBelow limit (drop i l)) ≡ (not (above || leb limit (getD l i 0)) && allBelow limit (drop (i + 1) l))
-  unfolding allBelow
-  all-on above h = ap (λ (k : List ℕ). not above && allBelow limit k) (rest-cons l i h) ∙ go above (le-or-lt limit (getD l i 0))
+module _ (test : ℕ → Bool) where
+  -- what was found so far, and what is left, after one number more
+  pub all-on : (l : List ℕ) (i : ℕ) (other b : Bool) → test (getD l i 0) ≡ not b → i < length l
+      → (not other && allOf test (drop i l)) ≡ (not (other || b) && allOf test (drop (i + 1) l))
+  unfolding allOf
+  all-on l i other b e h = ap (λ (k : List ℕ). not other && allOf test k) (rest-cons l i h) ∙ go other b e
     where
-      go : (b : Bool) → (limit ≤ getD l i 0) ⊎ (getD l i 0 < limit) → (not b && cond (ltb (getD l i 0) limit) (allBelow limit (drop (i + 1) l)) false) ≡ (not (b || leb limit (getD l i 0)) && allBelow limit (drop (i + 1) l))
-      go true d = refl
-      go false (inl d) = rw (le-ltb (getD l i 0) limit d, le-leb limit (getD l i 0) d)
-      go false (inr d) = rw (lt-ltb (getD l i 0) limit d, lt-leb limit (getD l i 0) d)
+      go : (o b : Bool) → test (getD l i 0) ≡ not b
+          → (not o && cond (test (getD l i 0)) (allOf test (drop (i + 1) l)) false)
+          ≡ (not (o || b) && allOf test (drop (i + 1) l))
+      go true b e = refl
+      go false true e = rw e
+      go false false e = rw e
 
-  pub all-end : (above : Bool) → length l ≤ i → (not above && allBelow limit (drop i l)) ≡ not above
-  unfolding allBelow
-  all-end above h = ap (λ (k : List ℕ). not above && allBelow limit k) (rest-none l i h) ∙ go above
+  pub all-end : (l : List ℕ) (i : ℕ) (other : Bool) → length l ≤ i → (not other && allOf test (drop i l)) ≡ not other
+  unfolding allOf
+  all-end l i other h = ap (λ (k : List ℕ). not other && allOf test k) (rest-none l i h) ∙ go other
     where
       go : (b : Bool) → (not b && true) ≡ not b
       go true = refl
       go false = refl
 
+  pub all-tested : (l : List ℕ) → allOf test l ≡ true → All (λ x. test x ≡ true) l
+  unfolding allOf
+  all-tested [] e = nil-all (λ x. test x ≡ true)
+  all-tested (x ∷ l) e =
+      let q = cond-inv (test x) (allOf test l) e in cons-all (λ x. test x ≡ true) (q .0) (all-tested l (q .1))
+
+  pub tested-all : (l : List ℕ) → All (λ x. test x ≡ true) l → allOf test l ≡ true
+  unfolding allOf
+  tested-all [] h = refl
+  tested-all (x ∷ l) h = rw (h x (List·Memᴰ·head refl)) (tested-all l (λ y k. h y (List·Memᴰ·tail k)))
+
+-- ---- numbers below a limit
+
+pub below-test : (x limit : ℕ) → ltb x limit ≡ not (leb limit x)
+below-test x limit = go (le-or-lt limit x)
+  where
+    go : (limit ≤ x) ⊎ (x < limit) → ltb x limit ≡ not (leb limit x)
+    go (inl d) = rw (le-ltb x limit d, le-leb limit x d)
+    go (inr d) = rw (lt-ltb x limit d, lt-leb limit x d)
+
 pub below-under : (limit : ℕ) (l : List ℕ) → allBelow limit l ≡ true → Under limit l
-unfolding allBelow
+unfolding allOf
 below-under limit [] e = tt
 below-under limit (x ∷ l) e =
     let q = cond-inv (ltb x limit) (allBelow limit l) e in
     (ltb-true x limit (q .0), below-under limit l (q .1))
 
 pub under-below : (limit : ℕ) (l : List ℕ) → Under limit l → allBelow limit l ≡ true
-unfolding allBelow
+unfolding allOf
 under-below limit [] h = refl
 under-below limit (x ∷ l) h = rw (lt-ltb x limit (h .0)) (under-below limit l (h .1))
 
@@ -160,28 +186,42 @@ module _ (pool coordinates rows points : List ℕ) where
 
   -- ---- what is written
 
-  pub written-yes : isMesh pool coordinates rows points ≡ true → meshWritten pool coordinates rows points ≡ accepted (meshBox (tablesMesh pool coordinates rows points))
+  pub written-yes : isMesh pool coordinates rows points ≡ true → allOf finiteWord pool ≡ true
+      → meshWritten pool coordinates rows points ≡ accepted (meshBox (tablesMesh pool coordinates rows points))
   unfolding meshWritten
-  written-yes e = rw e
+  written-yes e f = rw (e, f)
+
+  pub written-other : isMesh pool coordinates rows points ≡ true → allOf finiteWord pool ≡ false
+      → meshWritten pool coordinates rows points ≡ declined 17
+  unfolding meshWritten
+  written-other e f = rw (e, f)
 
   pub written-no : isMesh pool coordinates rows points ≡ false → meshWritten pool coordinates rows points ≡ declined 13
   unfolding meshWritten
   written-no e = rw e
 
-  pub written-value : (s : List ℕ) → meshWritten pool coordinates rows points ≡ accepted s → (isMesh pool coordinates rows points ≡ true) × (s ≡ meshBox (tablesMesh pool coordinates rows points))
+  pub written-value : (s : List ℕ) → meshWritten pool coordinates rows points ≡ accepted s
+      → (isMesh pool coordinates rows points ≡ true) × (s ≡ meshBox (tablesMesh pool coordinates rows points))
+      × AllFinite pool
   unfolding meshWritten
   written-value s e =
-      let t = tested-value (isMesh pool coordinates rows points) (accepted (meshBox (tablesMesh pool coordinates rows points))) 13 s e in
-      let d = t .1 in
-      (t .0, cc)
+      let t = tested-value (isMesh pool coordinates rows points) _ 13 s e in
+      let u = tested-value (allOf finiteWord pool) (accepted (meshBox (tablesMesh pool coordinates rows points))) 17 s (t .1) in
+      let d = u .1 in
+      (t .0, cc, all-tested finiteWord pool (u .0))
 
   -- the answers of `judge`
-  pub judged-no : isMesh pool coordinates rows points ≡ false → declined 13 ≡ mapped length (meshWritten pool coordinates rows points)
+  judged-no : isMesh pool coordinates rows points ≡ false → declined 13 ≡ mapped length (meshWritten pool coordinates rows points)
   judged-no e = ap (mapped length) (sym (written-no e))
 
-  pub judged-size : (n : ℕ) → isMesh pool coordinates rows points ≡ true → n ≡ boxSize (tablesMesh pool coordinates rows points) → accepted n ≡ mapped length (meshWritten pool coordinates rows points)
-  judged-size n e f =
-      ap (λ (k : ℕ). accepted k) (f ∙ sym (box-length (tablesMesh pool coordinates rows points))) ∙ ap (mapped length) (sym (written-yes e))
+  pub judged-other : isMesh pool coordinates rows points ≡ true → allOf finiteWord pool ≡ false
+      → declined 17 ≡ mapped length (meshWritten pool coordinates rows points)
+  judged-other e f = ap (mapped length) (sym (written-other e f))
+
+  pub judged-size : (n : ℕ) → isMesh pool coordinates rows points ≡ true → allOf finiteWord pool ≡ true
+      → n ≡ boxSize (tablesMesh pool coordinates rows points) → accepted n ≡ mapped length (meshWritten pool coordinates rows points)
+  judged-size n e g f =
+      ap (λ (k : ℕ). accepted k) (f ∙ sym (box-length (tablesMesh pool coordinates rows points))) ∙ ap (mapped length) (sym (written-yes e g))
 
 -- ---- one test that fails, as `judge` finds it
 
@@ -221,10 +261,6 @@ module _ (pool coordinates rows points : List ℕ) where
 
 -- ---- and all that pass
 
-and-inv : (a b : Bool) → (a && b) ≡ true → (a ≡ true) × (b ≡ true)
-and-inv true b e = (refl, e)
-and-inv false b e = not-so e
-
 pub record Counts (n v k : ℕ) : Type 0 where
   pub pool-some : 1 ≤ n
   pub pool-most : n ≤ 10000
@@ -236,39 +272,43 @@ pub record Counts (n v k : ℕ) : Type 0 where
 pub counts-told : (n v k : ℕ) → countsFit n v k ≡ true → Counts n v k
 unfolding countsFit
 counts-told n v k e =
-    let a = and-inv ((((leb 1 n && leb n 10000) && eqb (v % 5) 0) && leb 1 (v / 5)) && leb (v / 5) 32000) (leb 1 k) e in
-    let b = and-inv (((leb 1 n && leb n 10000) && eqb (v % 5) 0) && leb 1 (v / 5)) (leb (v / 5) 32000) (a .0) in
-    let d = and-inv ((leb 1 n && leb n 10000) && eqb (v % 5) 0) (leb 1 (v / 5)) (b .0) in
-    let f = and-inv (leb 1 n && leb n 10000) (eqb (v % 5) 0) (d .0) in
-    let g = and-inv (leb 1 n) (leb n 10000) (f .0) in
+    let a = both-true ((((leb 1 n && leb n 10000) && eqb (v % 5) 0) && leb 1 (v / 5)) && leb (v / 5) 32000) (leb 1 k) e in
+    let b = both-true (((leb 1 n && leb n 10000) && eqb (v % 5) 0) && leb 1 (v / 5)) (leb (v / 5) 32000) (a .0) in
+    let d = both-true ((leb 1 n && leb n 10000) && eqb (v % 5) 0) (leb 1 (v / 5)) (b .0) in
+    let f = both-true (leb 1 n && leb n 10000) (eqb (v % 5) 0) (d .0) in
+    let g = both-true (leb 1 n) (leb n 10000) (f .0) in
     record { pool-some = leb-true 1 n (g .0); pool-most = leb-true n 10000 (g .1); fives = eqb-true (v % 5) 0 (f .1); vertex-some = leb-true 1 (v / 5) (d .1); vertex-most = leb-true (v / 5) 32000 (b .1); rows-some = leb-true 1 k (a .1) }
 
 pub lengths-told : (k q : ℕ) → lengthsFit k q ≡ true → (k ≤ 67108864) × (q ≤ 536870912)
 unfolding lengthsFit
 lengths-told k q e =
-    let a = and-inv (leb k 67108864) (leb q 536870912) e in
+    let a = both-true (leb k 67108864) (leb q 536870912) e in
     (leb-true k 67108864 (a .0), leb-true q 536870912 (a .1))
 
-pub all-told : (pool coordinates rows points : List ℕ) (size : ℕ) → countsFit (length pool) (length coordinates) (length rows) ≡ true → rowsFit rows (length points) ≡ true
-    → size ≡ sizeOf (length pool) (length coordinates) (length coordinates / 5) (length rows / 3) (length points) → size ≤ 67108864
-    → allBelow (length pool) coordinates ≡ true → allBelow (length coordinates / 5) points ≡ true → accepted size ≡ mapped length (meshWritten pool coordinates rows points)
-all-told pool coordinates rows points size c r s most a b =
-    let t = counts-told (length pool) (length coordinates) (length rows) c in
-    let n : size ≡ boxSize (tablesMesh pool coordinates rows points) = s ∙ sym (size-is pool coordinates rows points r) in
-    judged-size pool coordinates rows points size
-    (passes pool coordinates rows points
-    (record {
-      pool-some = t .pool-some;
-      pool-most = t .pool-most;
-      fives = t .fives;
-      vertex-some = t .vertex-some;
-      vertex-most = t .vertex-most;
-      coordinates-below = a;
-      rows-some = t .rows-some;
-      rows-fit = r;
-      points-below = b;
-      size = rw (← n) most;
-    })) n
+module _ (pool coordinates rows points : List ℕ) (size : ℕ) (r : rowsFit rows (length points) ≡ true)
+    (s : size ≡ sizeOf (length pool) (length coordinates) (length coordinates / 5) (length rows / 3) (length points)) where
+  pub box-told : size ≡ boxSize (tablesMesh pool coordinates rows points)
+  box-told = s ∙ sym (size-is pool coordinates rows points r)
+
+  pub all-told : countsFit (length pool) (length coordinates) (length rows) ≡ true → size ≤ 67108864
+      → allBelow (length pool) coordinates ≡ true → allBelow (length coordinates / 5) points ≡ true
+      → isMesh pool coordinates rows points ≡ true
+  all-told c most a b =
+      let t = counts-told (length pool) (length coordinates) (length rows) c in
+      let n = box-told in
+      passes pool coordinates rows points
+      (record {
+        pool-some = t .pool-some;
+        pool-most = t .pool-most;
+        fives = t .fives;
+        vertex-some = t .vertex-some;
+        vertex-most = t .vertex-most;
+        coordinates-below = a;
+        rows-some = t .rows-some;
+        rows-fit = r;
+        points-below = b;
+        size = rw (← n) most;
+      })
 
 pub size-no : (pool coordinates rows points : List ℕ) (size : ℕ) → rowsFit rows (length points) ≡ true
     → size ≡ sizeOf (length pool) (length coordinates) (length coordinates / 5) (length rows / 3) (length points) → 67108864 < size → Told pool coordinates rows points → ⊥

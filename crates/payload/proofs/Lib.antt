@@ -21,6 +21,7 @@ pub mod NanProofs
 pub mod StepLaws
 pub mod PartLaws
 pub mod RangeLaws
+pub mod PoolLaws
 pub mod SubmeshLaws
 pub mod BodyLaws
 pub mod MeshReadLaws
@@ -49,6 +50,7 @@ pub mod RowLaws
 pub mod MeshWriteLaws
 pub mod BoxLaws
 pub mod JudgeLaws
+pub mod FiniteProofs
 pub mod PutBoxLaws
 pub mod MeshWriteProofs
 pub mod WrittenProofs

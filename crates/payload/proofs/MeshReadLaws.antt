@@ -9,16 +9,17 @@ use Rattle.bits.specs.Verdict.{accepted}
 use Rattle.bits.specs.Field.{field}
 use Rattle.bits.specs.Number.{widthOf}
 use Rattle.bits.proofs.VerdictLaws.{then-yes}
+use Rattle.payload.specs.Float.{AllFinite}
 use Rattle.payload.specs.Mesh.{Mesh}
 use Rattle.bits.specs.Run.{zeros, RunSpells}
 use Rattle.payload.specs.MeshSpells.{submeshBits, sizes, SubmeshesSpell, meshVertices, aligned, verticesAt}
 use Rattle.payload.specs.MeshSpells.{verticesEnd, submeshesAt, submeshesEnd, MeshSpells}
 use Rattle.payload.specs.MeshRead.{many, readSubmesh, readSubmeshes, meshOf, readMesh}
-use Rattle.payload.specs.Internal.{readWords}
+use Rattle.payload.specs.Internal.{readWords, PoolThere}
 use Rattle.bits.proofs.RunLaws.{complete-value, run-spells, spells-run}
 use Rattle.payload.proofs.RangeLaws.{inrange-value, words-length, words-at}
 use Rattle.payload.proofs.SubmeshLaws.{submeshes-value, submeshes-on, submeshes-spell, spell-submeshes}
-use Rattle.payload.proofs.BodyLaws.{mesh-on, pool-read, pool-on, vertexRun, counts-on, counts-parts}
+use Rattle.payload.proofs.BodyLaws.{mesh-on, pool-accepted, pool-read, pool-on, vertexRun, counts-on, counts-parts}
 
 -- ---- its parts
 
@@ -33,6 +34,7 @@ pub record MeshParts (s : List ℕ) (x : Mesh) (t : ℕ) : Type 0 where
   pub n-some : 1 ≤ n
   pub n-most : n ≤ 10000
   pub pool-is : x .pool ≡ readWords s 32 n
+  pub pool-finite : AllFinite (readWords s 32 n)
   pub m-is : field s (32 * n + 32) 32 ≡ m
   pub m-some : 1 ≤ m
   pub m-most : m ≤ 32000
@@ -49,7 +51,8 @@ mesh-parts s x t e =
     let m = field s (32 * n + 32) 32 in
     let a = complete-value s 32 _ (x, t) e in
     let b = inrange-value 1 10000 n _ (x, t) (a .1) in
-    let c = complete-value s (verticesAt n) _ (x, t) (sym (pool-read s n (a .0)) ∙ b .2) in
+    let P = pool-accepted s n x t (a .0) (b .2) in
+    let c = complete-value s (verticesAt n) _ (x, t) (sym (pool-read s n P) ∙ b .2) in
     let d = inrange-value 1 32000 m _ (x, t) (c .1) in
     let v = counts-parts s n m x t (d .2) in
     let i = submeshes-value s (widthOf m) m (aligned (v .q)) (x .submeshes) t (v .submeshes) in
@@ -63,6 +66,7 @@ mesh-parts s x t e =
       n-some = b .0;
       n-most = b .1;
       pool-is = v .pool-is;
+      pool-finite = P .finite;
       m-is = refl;
       m-some = d .0;
       m-most = d .1;
@@ -105,6 +109,7 @@ module _ (s : List ℕ) where
             pool-some = rw a (r .n-some);
             pool-most = rw a (r .n-most);
             pool-words = λ i h. sym (rw (r .pool-is) (words-at s 32 (r .n) i (rw a at h)));
+            pool-finite = rw (r .pool-is) (r .pool-finite);
             fives = rw b (v .1);
             vertex-count = rw (a, b) (r .m-is);
             vertex-some = rw b (r .m-some);
@@ -126,8 +131,9 @@ module _ (s : List ℕ) where
       let p : readWords s 32 n ≡ x .pool =
       ext-getD 0 (readWords s 32 n) (x .pool) (words-length s 32 n)
       (λ i h. let h′ : i < n = rw (words-length s 32 n) at h in words-at s 32 n i h′ ∙ e .pool-words i h′) in
+      let P : PoolThere s n = record { there = omega (arith, e .head); finite = rw p (e .pool-finite) } in
       mesh-on s n (omega (arith, e .head)) (e .pool-count) (e .pool-some) (e .pool-most)
-      ∙ pool-on s n m (e .head) (e .vertex-count) (e .vertex-some) (e .vertex-most)
+      ∙ pool-on s n P (e .head) m (e .vertex-count) (e .vertex-some) (e .vertex-most)
       ∙ counts-on s n m (x .vertices) q r
       ∙ then-yes (readSubmeshes s (widthOf m) m (aligned q)) (meshOf (readWords s 32 n) (x .vertices))
       (x .submeshes, submeshesEnd x)

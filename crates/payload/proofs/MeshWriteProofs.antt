@@ -13,11 +13,12 @@ use Rattle.bits.proofs.FieldLaws.{field-lt}
 use Rattle.payload.specs.Laws.{MeshWrites, PlainBox, TablesRead, Words32, writtenOf}
 use Rattle.payload.specs.Mesh.{Mesh, Submesh}
 use Rattle.payload.specs.MeshSpells.{MeshSpells, MeshesSpell, SubmeshesSpell, submeshBits, meshVertices}
+use Rattle.payload.specs.Float.{finiteWord}
 use Rattle.payload.specs.MeshWrite.{boxSize, isMesh, meshBody, meshBox, rowWithin, submeshesOf, tablesMesh}
 use Rattle.payload.specs.Tables.{allPoints, coordinateTable, pointTable, poolTable, submeshRows, submeshTable}
 use Rattle.payload.specs.InternalWriting.{rowFits, rowsFit}
 use Rattle.payload.proofs.BoxLaws.{box-length, body-length, body-spells, box-body, box-spells, plain-body, plain-box, plain-size}
-use Rattle.payload.proofs.JudgeLaws.{mesh-within, passes, told, under-below, written-value, written-yes}
+use Rattle.payload.proofs.JudgeLaws.{mesh-within, passes, tested-all, told, under-below, written-value, written-yes}
 use Rattle.payload.proofs.MeshReadLaws.{spells-mesh}
 use Rattle.payload.proofs.MeshTheorems.{meshes-reads}
 use Rattle.payload.proofs.MeshWriteLaws.{Each, SubmeshWithin, Under, Within, mesh-bits}
@@ -125,14 +126,15 @@ written-spells x s w e =
     let h = mesh-within (poolTable x) (coordinateTable x) (submeshTable x) (pointTable x) w (v .0) in
     let i : Within x = subst Within (mesh-back x) h in
     let j : s ≡ meshBox x = v .1 ∙ ap meshBox (mesh-back x) in
-    rw j (box-spells x i)
+    rw j (box-spells x i (v .2))
 
 written-back : (x : Mesh) (s : List ℕ) → PlainBox x s → MeshesSpell (x ∷ []) s → writtenOf x ≡ accepted s
 written-back x s b e =
     let p : s ≡ meshBox x = plain-box s x e b in
     let z : boxSize x ≡ length s = plain-size s x e b in
     let i = spelled-mesh (drop 8 s) x (plain-body s x e b) (omega (arith, b .most)) in
-    written-yes (poolTable x) (coordinateTable x) (submeshTable x) (pointTable x) i
+    let f = tested-all finiteWord (poolTable x) (plain-body s x e b .pool-finite) in
+    written-yes (poolTable x) (coordinateTable x) (submeshTable x) (pointTable x) i f
     ∙ ap (λ (l : List ℕ). accepted l) (ap meshBox (mesh-back x) ∙ sym p)
 
 pub mesh-writes : MeshWrites
@@ -145,14 +147,14 @@ tables-read pool coordinates rows points s w e =
     let t = told pool coordinates rows points (v .0) in
     let h = mesh-within pool coordinates rows points w (v .0) in
     let b = tables-back rows points (t .rows-fit) in
-    let f = spells-mesh (meshBody (tablesMesh pool coordinates rows points)) (tablesMesh pool coordinates rows points) (body-spells (tablesMesh pool coordinates rows points) h) in
+    let f = spells-mesh (meshBody (tablesMesh pool coordinates rows points)) (tablesMesh pool coordinates rows points) (body-spells (tablesMesh pool coordinates rows points) h (v .2)) in
     let l : length (meshBody (tablesMesh pool coordinates rows points)) ≤ 67108864 = omega (arith, body-length (tablesMesh pool coordinates rows points), mesh-bits (tablesMesh pool coordinates rows points), t .size) in
     let d : drop 8 s ≡ meshBody (tablesMesh pool coordinates rows points) = ap (drop 8) (v .1) ∙ box-body (tablesMesh pool coordinates rows points) in
     record {
       mesh = tablesMesh pool coordinates rows points;
       size = rw (v .1) (omega (arith, box-length (tablesMesh pool coordinates rows points), t .size));
-      spells = rw (v .1) (box-spells (tablesMesh pool coordinates rows points) h);
-      box-reads = rw (v .1) (meshes-reads .reads (tablesMesh pool coordinates rows points ∷ []) (meshBox (tablesMesh pool coordinates rows points)) .1 (box-spells (tablesMesh pool coordinates rows points) h));
+      spells = rw (v .1) (box-spells (tablesMesh pool coordinates rows points) h (v .2));
+      box-reads = rw (v .1) (meshes-reads .reads (tablesMesh pool coordinates rows points ∷ []) (meshBox (tablesMesh pool coordinates rows points)) .1 (box-spells (tablesMesh pool coordinates rows points) h (v .2)));
       body-reads = rw d (limited-yes (meshBody (tablesMesh pool coordinates rows points)) _ l ∙ ap (mapped (λ y. y .0)) (f .1));
       pool-same = refl;
       coordinates-same = refl;

@@ -17,7 +17,7 @@ use Rattle.bits.proofs.VerdictLaws.{le-or-lt, clash, tested-value, then-yes, th
 use Rattle.bits.proofs.NumberLaws.{width-enough, width-least}
 use Rattle.bits.specs.Run.{Found, complete}
 use Rattle.payload.specs.MeshSpells.{EachSpells, sizes}
-use Rattle.payload.specs.MeshRead.{inRange, notZero, many, readWord}
+use Rattle.payload.specs.MeshRead.{inRange, notZero, many}
 use Rattle.payload.specs.Internal.{readWords}
 use Rattle.bits.proofs.RunLaws.{complete-yes, complete-no}
 
@@ -169,29 +169,3 @@ words-at s p zero i h = absurd (omega arith)
 words-at s p (suc n) zero h = ap (λ (k : ℕ). field s k 32) (omega arith)
 words-at s p (suc n) (suc i) h =
     words-at s (p + 32) n i (le-of-suc-le-suc h) ∙ ap (λ (k : ℕ). field s k 32) (omega arith)
-
--- n words from a bit on that are read one by one: all are complete where their bits are there, and else 3 is said
-pub words-read : (s : List ℕ) (n p : ℕ) → p ≤ 8 * length s
-    → many (readWord s) n p ≡ complete s (p + 32 * n) (accepted (readWords s p n, p + 32 * n))
-unfolding readWords
-words-read s zero p h =
-    let z : p ≡ p + 32 * 0 = omega arith in
-    many-none (readWord s) p
-    ∙ sym (complete-yes s p (accepted ([], p)) h)
-    ∙ ap (λ (k : ℕ). complete s k (accepted ([], k))) z
-words-read s (suc n) p h = go (le-or-lt (p + 32) (8 * length s)) (words-read s n (p + 32))
-  where
-    go : (p + 32 ≤ 8 * length s) ⊎ (8 * length s < p + 32)
-        → (p + 32 ≤ 8 * length s → many (readWord s) n (p + 32)
-        ≡ complete s (p + 32 + 32 * n) (accepted (readWords s (p + 32) n, p + 32 + 32 * n)))
-        → many (readWord s) (suc n) p
-        ≡ complete s (p + 32 * suc n) (accepted (field s p 32 ∷ readWords s (p + 32) n, p + 32 * suc n))
-    go (inl l) ih =
-        let z : p + 32 + 32 * n ≡ p + 32 * suc n = omega arith in
-        many-on (readWord s) n p (field s p 32) (p + 32) (complete-yes s (p + 32) _ l)
-        ∙ ap (λ (v : Found (List ℕ)). andThen v (λ l. accepted (field s p 32 ∷ l .0, l .1))) (ih l)
-        ∙ complete-then s (p + 32 + 32 * n) _ (λ l. accepted (field s p 32 ∷ l .0, l .1))
-        ∙ ap (λ (k : ℕ). complete s k (accepted (field s p 32 ∷ readWords s (p + 32) n, k))) z
-    go (inr l) ih =
-        many-declined (readWord s) n p 3 (complete-no s (p + 32) _ l)
-        ∙ sym (complete-no s (p + 32 * suc n) _ (omega arith))

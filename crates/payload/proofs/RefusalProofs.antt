@@ -24,11 +24,12 @@ use Rattle.payload.specs.Cube.{cellsUsable, shareUsable, cubeNumbers, cu
 use Rattle.payload.specs.Count.{counted, indexCount}
 use Rattle.payload.specs.Mesh.{Mesh}
 use Rattle.payload.specs.MeshSpells.{aligned, part, meshType}
-use Rattle.payload.specs.MeshRead.{inRange, many, readSubmesh, readSubmeshes, readWord, afterVertices}
+use Rattle.payload.specs.MeshRead.{inRange, ifFinite, many, readSubmesh, readSubmeshes, readWord, afterVertices}
 use Rattle.payload.specs.MeshRead.{afterPoolCount, readMesh, readItem, readBoxes, readFrom, readMeshes}
 use Rattle.payload.specs.Meshes.{listSize, drawnMeshes, recordedMeshes}
 use Rattle.payload.specs.Tables.{tableLengths, bodyRead, tablesOf}
-use Rattle.payload.specs.MeshWrite.{isMesh, meshWritten}
+use Rattle.payload.specs.Float.{finiteWord}
+use Rattle.payload.specs.MeshWrite.{allOf, isMesh, meshWritten}
 use Rattle.bits.specs.Refusals.{among, Refuses, gives, refuses, RefusesOr12, Claim}
 use Rattle.bits.proofs.RefusalLaws.{then-refuses, mapped-refuses, cond-refuses, within-refuses, limited-refuses, complete-refuses, run-refuses, header-refuses}
 use Rattle.bits.proofs.RefusalLaws.{unlisted, unlisted-12}
@@ -93,7 +94,7 @@ module _ {ks : List ℕ} where
 
     -- ---- kind 2, from a run up to the list of boxes
 
-    module _ (seven : among 7 ks ≡ true) (eight : among 8 ks ≡ true) where
+    module _ (seven : among 7 ks ≡ true) (eight : among 8 ks ≡ true) (seventeen : among 17 ks ≡ true) where
       range-refuses : {A : Type 0} {v : Verdict A} (low high n : ℕ) → Refuses ks v → Refuses ks (inRange low high n v)
       unfolding inRange
       range-refuses low high n r =
@@ -115,10 +116,11 @@ module _ {ks : List ℕ} where
           (many-refuses (readSubmesh s w m) (submesh-refuses s w m) n (p + 32)))
 
       mesh-refuses : (s : List ℕ) → Refuses ks (readMesh s)
-      unfolding readMesh afterPoolCount afterVertices
+      unfolding readMesh afterPoolCount afterVertices ifFinite
       mesh-refuses s =
           let n = field s 0 32 in
-          let word : (p : ℕ) → Refuses ks (readWord s p) = λ p. whole-refuses s (p + 32) (gives _) in
+          let word : (p : ℕ) → Refuses ks (readWord s p) = λ p.
+          whole-refuses s (p + 32) (cond-refuses (finiteWord (field s p 32)) (gives _) (refuses 17 seventeen)) in
           whole-refuses s 32 (range-refuses 1 10000 n
           (then-refuses (many-refuses (readWord s) word n 32) (λ pool.
           let m = field s (pool .1) 32 in
@@ -186,19 +188,19 @@ refusals =
     record {
       parse-equi = λ s. limited-refuses s refl (mapped-refuses withCrop (equi-refuses refl refl refl s));
       parse-cbmp = λ s. limited-refuses s refl (cbmp-refuses refl refl refl s);
-      measure-mesh = λ s. mapped-refuses tableLengths (body-refuses refl refl refl refl s);
-      measure-meshes = λ s. limited-refuses s refl (mapped-refuses listSize (meshes-refuses refl refl refl refl s));
+      measure-mesh = λ s. mapped-refuses tableLengths (body-refuses refl refl refl refl refl s);
+      measure-meshes = λ s. limited-refuses s refl (mapped-refuses listSize (meshes-refuses refl refl refl refl refl s));
       parse-mesh = λ s buffers.
-          answer-refuses buffers (mapped-refuses tablesOf (body-refuses refl refl refl refl s));
+          answer-refuses buffers (mapped-refuses tablesOf (body-refuses refl refl refl refl refl s));
       parse-meshes = λ s buffers.
           answer-refuses buffers
-          (mapped-refuses drawnMeshes (limited-refuses s refl (meshes-refuses refl refl refl refl s)));
+          (mapped-refuses drawnMeshes (limited-refuses s refl (meshes-refuses refl refl refl refl refl s)));
       mesh-records = λ s buffers.
           answer-refuses buffers
-          (mapped-refuses recordedMeshes (limited-refuses s refl (meshes-refuses refl refl refl refl s)));
+          (mapped-refuses recordedMeshes (limited-refuses s refl (meshes-refuses refl refl refl refl refl s)));
       texture-points = λ s buffers.
           items-refuses 2 buffers
-          (mapped-refuses _ (limited-refuses s refl (meshes-refuses refl refl refl refl s)));
+          (mapped-refuses _ (limited-refuses s refl (meshes-refuses refl refl refl refl refl s)));
       sphere-indices-bounded = λ rings sectors b buffers. items-refuses 1 buffers (numbers-refuses rings sectors b);
       sphere-indices = λ rings sectors buffers. items-refuses 1 buffers (full-refuses rings sectors);
       sphere-uvs = λ rings sectors buffers. items-refuses 2 buffers (uvs-refuses refl rings sectors);
@@ -212,7 +214,8 @@ refusals =
       write-cbmp = λ p buffers. items-refuses 1 buffers (cond-refuses (leb p 4096) (gives _) (refuses 5 refl));
       write-mesh = λ pool coordinates rows points buffers.
           items-refuses 1 buffers
-          (cond-refuses (isMesh pool coordinates rows points) (gives _) (refuses 13 refl));
+          (cond-refuses (isMesh pool coordinates rows points)
+          (cond-refuses (allOf finiteWord pool) (gives _) (refuses 17 refl)) (refuses 13 refl));
       vertex-count = λ rings sectors. counted-refuses ((rings + 1) * (sectors + 1));
       index-count = λ rings sectors.
           cond-refuses (leb 2 rings) (counted-refuses (6 * rings * sectors)) (gives 0);
@@ -261,4 +264,4 @@ lends-none (gives a) l e = clash (cc)
 lends-none (refuses k h) l e = clash (cc)
 
 pub never-needs : (s l : List ℕ) → readMeshes s ≡ needs l → ⊥
-never-needs s = lends-none (meshes-refuses {ks = 3 ∷ 6 ∷ 7 ∷ 8 ∷ []} refl refl refl refl s)
+never-needs s = lends-none (meshes-refuses {ks = 3 ∷ 6 ∷ 7 ∷ 8 ∷ 17 ∷ []} refl refl refl refl refl s)

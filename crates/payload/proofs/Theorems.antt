@@ -28,6 +28,7 @@ use Rattle.payload.specs.ShareLaws.{ShareLaws}
 use Rattle.bits.specs.Refusals.{among, Claim}
 use Rattle.payload.specs.Refusals.{EachCall, Refusals, NeverSixteen}
 use Rattle.payload.specs.NanLaws.{NanLaws}
+use Rattle.payload.specs.FiniteLaws.{FiniteLaws}
 use Rattle.payload.specs.CropMarked.{CropMarked}
 use Rattle.payload.specs.SphereMarked.{SphereMarked}
 use Rattle.payload.specs.CubeMarked.{CubeMarked}
@@ -53,6 +54,7 @@ use Rattle.payload.proofs.TextureProofs as texture
 use Rattle.payload.proofs.TextureMarked as texture-cases
 use Rattle.payload.proofs.RefusalProofs as refusal
 use Rattle.payload.proofs.NanProofs as nan
+use Rattle.payload.proofs.FiniteProofs as finite-pools
 
 -- ---- reading and writing, of specs/Laws.antt
 
@@ -117,6 +119,11 @@ textures-read = texture.textures-read
 
 pub nan-laws : NanLaws
 nan-laws = nan.nan-laws
+
+-- ---- pools of finite words, of specs/FiniteLaws.antt
+
+pub finite-laws : FiniteLaws
+finite-laws = finite-pools.finite-laws
 
 -- ---- a cube's padding, of specs/ShareLaws.antt
 

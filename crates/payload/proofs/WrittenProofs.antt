@@ -82,7 +82,7 @@ mesh-spells : (pool coordinates rows points s : List ℕ) → Words32 pool
     → MeshesSpell (tablesMesh pool coordinates rows points ∷ []) s
 mesh-spells pool coordinates rows points s w e =
     let v = written-value pool coordinates rows points s e in
-    rw (v .1) (box-spells (tablesMesh pool coordinates rows points) (mesh-within pool coordinates rows points w (v .0)))
+    rw (v .1) (box-spells (tablesMesh pool coordinates rows points) (mesh-within pool coordinates rows points w (v .0)) (v .2))
 
 pub mesh-writes-into : MeshWritesInto
 mesh-writes-into pool coordinates rows points w =

@@ -1,7 +1,11 @@
 -- Floats of binary32 by their bits, and the operations by short names. Each operation rounds to the nearest, ties to
 -- even.
 use Prim.Native.Nat.{ℕ}
+use mathlib.Core.Path.{_≡_}
+use mathlib.Core.Bool.{Bool, true}
+use mathlib.Core.List.{List, List·Memᴰ}
 use lib.Ieee.{Float, binary32, ofBits, add, sub, mul, div}
+use lib.Ieee.Scale.{finite}
 use Rattle.bits.specs.Float.{nearest}
 
 abbrev pub f0 : Float
@@ -41,3 +45,11 @@ x ⊘ y = div binary32 x y
 -- x / n of two whole numbers, each first the nearest f32
 abbrev pub ratio : ℕ → ℕ → Float
 ratio x n = nearest x ⊘ nearest n
+
+-- whether the f32 with these bits is finite
+abbrev pub finiteWord : ℕ → Bool
+finiteWord w = finite (ofBits binary32 w)
+
+-- every word of a list is
+abbrev pub AllFinite : List ℕ → Type 0
+AllFinite l = (w : ℕ) → List·Memᴰ w l → finiteWord w ≡ true

@@ -8,6 +8,7 @@ use mathlib.Core.List.{List, [], _∷_}
 use Rattle.bits.specs.Verdict.{Verdict, accepted, needs, declined, mapped}
 use Rattle.bits.specs.Field.{field}
 use Rattle.bits.specs.Number.{widthOf}
+use Rattle.payload.specs.Float.{AllFinite}
 use Rattle.payload.specs.Mesh.{Submesh, Mesh}
 use Rattle.bits.specs.Run.{zeros, Found, readRun, summed}
 use Rattle.bits.specs.declared.fields.runs.Run.{Run}
@@ -19,6 +20,10 @@ use Rattle.payload.specs.declared.mesh.draw.DrawPlace.{DrawPlace}
 use Rattle.payload.specs.declared.mesh.submeshes.Submeshes.{Submeshes}
 use Rattle.payload.specs.declared.mesh.submeshes.NextSubmesh.{NextSubmesh}
 use Rattle.payload.specs.declared.mesh.records.RecordPlace.{RecordPlace}
+use Rattle.payload.specs.declared.mesh.fields.PoolWord.{PoolWord}
+use Rattle.payload.specs.declared.mesh.fields.PoolWord.the-variants as W
+use Rattle.payload.specs.declared.mesh.measure.PoolCheck.{PoolCheck}
+use Rattle.payload.specs.declared.mesh.measure.PoolCheck.the-variants as C
 use Rattle.payload.specs.declared.mesh.measure.SubmeshEnd.{SubmeshEnd}
 use Rattle.payload.specs.declared.mesh.measure.SubmeshEnd.the-variants as E
 use Rattle.payload.specs.declared.mesh.measure.SubmeshesSize.{SubmeshesSize}
@@ -51,6 +56,11 @@ runNumbers v = valueOr ([], 0) v .0
 unfoldable pub readWords : List ℕ → ℕ → ℕ → List ℕ
 readWords s p zero = []
 readWords s p (suc n) = field s p 32 ∷ readWords s (p + 32) n
+
+-- the n words of the pool are there, and finite
+pub record PoolThere (s : List ℕ) (n : ℕ) : Type 0 where
+  pub there : 32 * n + 32 ≤ 8 * length s
+  pub finite : AllFinite (readWords s 32 n)
 
 -- after the vertex count, where the pool is complete
 unfoldable pub afterCounts : List ℕ → ℕ → ℕ → Found Mesh
@@ -114,6 +124,19 @@ pub record Taken (s : List ℕ) (all : Submeshes) (r : NextSubmesh) : Type 0 whe
   pub left : r .rest .left + 1 ≡ all .left
 
 -- ---- what the validating pass keeps of what was read
+
+-- a word of a pool that was fetched at bit p, and the place after it
+abbrev pub wordSays : ℕ → PoolWord → Found ℕ
+wordSays p (W.Finite w) = accepted (w, p + 32)
+wordSays p (W.Declined k) = declined k
+
+-- that the pool's words are good
+abbrev pub poolSays : PoolCheck → Verdict (Unit {0})
+poolSays C.Good = accepted tt
+poolSays (C.Declined k) = declined k
+
+abbrev pub nothing : {A : Type 0} → A → Unit {0}
+nothing a = tt
 
 -- where submeshes over m vertices begin in a body, and how wide their fields are
 pub record SubmeshPlace (s : List ℕ) (w m p : ℕ) : Type 0 where

@@ -74,3 +74,4 @@ sizeOf n v m k q = 8 + (aligned (verticesAt n + v * widthOf n) + 32 + 48 * k + q
 abbrev pub judgedSays : Judged → Verdict ℕ
 judgedSays (J.Size n) = accepted n
 judgedSays J.NoMesh = declined 13
+judgedSays J.NotFinite = declined 17

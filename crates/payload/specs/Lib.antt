@@ -37,6 +37,7 @@ pub mod MeshMarked
 pub mod TextureLaws
 pub mod TextureMarked
 pub mod Laws
+pub mod FiniteLaws
 pub mod InternalWriting
 pub mod WrittenLaws
 pub mod Refusals

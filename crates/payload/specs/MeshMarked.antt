@@ -1,6 +1,6 @@
 -- m1 of document 01: a list of one mesh box, as it is read, drawn and written, with damaged copies of it, and a list of
 -- two.
-use Prim.Native.Nat.{ℕ}
+use Prim.Native.Nat.{ℕ, _+_}
 use mathlib.Core.Path.{_≡_}
 use mathlib.Core.List.{List, [], _∷_, _++_}
 use lib.ListN.{take, set}
@@ -31,6 +31,14 @@ twoBoxes =
     oneBox
     ++ ((0x00 ∷ 0x00 ∷ 0x00 ∷ 0x09 ∷ 0x66 ∷ 0x72 ∷ 0x65 ∷ 0x65 ∷ 0xFF ∷ []) ++ (oneBox ++ (0xFF ∷ 0xFF ∷ 0xFF ∷ [])))
 
+-- its first 19 bytes, with that size: the second word is cut off
+abbrev pub cutBox : List ℕ
+cutBox = set (take 19 oneBox) 3 0x13
+
+-- bytes with those of an infinity, 7F80, from place i on
+abbrev pub infiniteAt : ℕ → List ℕ → List ℕ
+infiniteAt i s = set (set s i 0x7F) (i + 1) 0x80
+
 pub record MeshMarked : Type 0 where
   pub m1 : readMeshes oneBox ≡ accepted (oneMesh ∷ [])
   pub m1-two : readMeshes twoBoxes ≡ accepted (oneMesh ∷ oneMesh ∷ [])
@@ -50,6 +58,18 @@ pub record MeshMarked : Type 0 where
   -- the second point goes below 0; the third is 3, of three vertices
   pub m1-below : readMeshes (set oneBox 38 0x0F) ≡ declined 8
   pub m1-above : readMeshes (set oneBox 38 0x0A) ≡ declined 8
+  -- the second word an infinity, or a NaN
+  pub word-infinite : readMeshes (infiniteAt 16 oneBox) ≡ declined 17
+  pub word-nan : readMeshes (set (set oneBox 16 0xFF) 17 0xFF) ≡ declined 17
+  -- an infinity before a word that is cut off; one that is itself cut off; one before a vertex count of 0
+  pub word-before-cut : readMeshes (infiniteAt 12 cutBox) ≡ declined 17
+  pub word-cut : readMeshes (infiniteAt 16 cutBox) ≡ declined 3
+  pub word-before-count : readMeshes (infiniteAt 16 (set oneBox 23 0x00)) ≡ declined 17
+  -- written: 17, and 13 before it
+  pub word-written : meshWritten (0 ∷ 0x7F800000 ∷ []) (oneMesh .vertices) (0 ∷ 0 ∷ 3 ∷ []) (0 ∷ 1 ∷ 2 ∷ [])
+      ≡ declined 17
+  pub word-no-mesh : meshWritten (0 ∷ 0x7F800000 ∷ []) (oneMesh .vertices) (0 ∷ 0 ∷ 3 ∷ []) (0 ∷ 1 ∷ 3 ∷ [])
+      ≡ declined 13
   -- a submesh count of 0
   pub m1-none : readMeshes (set oneBox 31 0x00) ≡ declined 7
   -- a size of 38: the body ends before the points

@@ -9,9 +9,10 @@ use Rattle.bits.specs.Verdict.{Verdict, accepted, declined, andThen}
 use Rattle.bits.specs.Field.{field}
 use Rattle.bits.specs.Number.{widthOf}
 use Rattle.bits.specs.Header.{Item, listEnd, box, headerAt}
+use Rattle.payload.specs.Float.{finiteWord}
 use Rattle.payload.specs.Mesh.{Submesh, Mesh}
 use Rattle.bits.specs.Run.{zeros, Found, complete, readRun}
-use Rattle.payload.specs.MeshSpells.{aligned, verticesAt, part, meshType}
+use Rattle.payload.specs.MeshSpells.{aligned, part, meshType}
 
 -- a count from low to high: 7 where it is not
 unfoldable pub inRange : {A : Type 0} → ℕ → ℕ → ℕ → Verdict A → Verdict A
@@ -20,6 +21,10 @@ inRange low high n v = cond (leb low n) (cond (leb n high) v (declined 7)) (decl
 -- a count that is not 0: 7 where it is
 abbrev pub notZero : {A : Type 0} → ℕ → Verdict A → Verdict A
 notZero n v = cond (eqb n 0) (declined 7) v
+
+-- a word whose f32 is finite: 17 where it is not
+unfoldable pub ifFinite : {A : Type 0} → ℕ → Verdict A → Verdict A
+ifFinite w v = cond (finiteWord w) v (declined 17)
 
 -- n things, one after the other
 unfoldable pub many : {A : Type 0} → (ℕ → Found A) → ℕ → ℕ → Found (List A)
@@ -49,9 +54,9 @@ readSubmeshes s w m p =
 -- ---- a mesh body. Its parts, the last first: after the vertices; after the vertex count; after the pool; after the
 -- coordinate count. The pool has n words, and there are m vertices.
 
--- a word of the pool
+-- a word of the pool, and its f32 is finite
 abbrev pub readWord : List ℕ → ℕ → Found ℕ
-readWord s p = complete s (p + 32) (accepted (field s p 32, p + 32))
+readWord s p = complete s (p + 32) (ifFinite (field s p 32) (accepted (field s p 32, p + 32)))
 
 abbrev pub meshOf : List ℕ → List ℕ → List Submesh × ℕ → Found Mesh
 meshOf pool vertices l = accepted (record { pool = pool; vertices = vertices; submeshes = l .0 }, l .1)

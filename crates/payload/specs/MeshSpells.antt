@@ -5,6 +5,7 @@ use mathlib.Core.List.{List, [], _∷_}
 use lib.ListN.{length, getD, take, drop}
 use Rattle.bits.specs.Field.{field}
 use Rattle.bits.specs.Number.{widthOf}
+use Rattle.payload.specs.Float.{AllFinite}
 use Rattle.payload.specs.Mesh.{Submesh, Mesh}
 use Rattle.bits.specs.Run.{zeros, RunSpells}
 
@@ -60,14 +61,15 @@ submeshesAt x = aligned (verticesEnd x)
 abbrev pub submeshesEnd : Mesh → ℕ
 submeshesEnd x = submeshesAt x + 32 + sizes (submeshBits (widthOf (meshVertices x))) (x .submeshes)
 
--- coordinate count n, n words, vertex count m; m * 5 fields of width w(n); free bits to the next byte boundary, submesh
--- count, submeshes
+-- coordinate count n, n words, each of them a finite f32, vertex count m; m * 5 fields of width w(n); free bits to the
+-- next byte boundary, submesh count, submeshes
 pub record MeshSpells (s : List ℕ) (x : Mesh) : Type 0 where
   pub head : verticesAt (length (x .pool)) ≤ 8 * length s
   pub pool-count : field s 0 32 ≡ length (x .pool)
   pub pool-some : 1 ≤ length (x .pool)
   pub pool-most : length (x .pool) ≤ 10000
   pub pool-words : (i : ℕ) → i < length (x .pool) → field s (32 + i * 32) 32 ≡ getD (x .pool) i 0
+  pub pool-finite : AllFinite (x .pool)
   pub fives : length (x .vertices) ≡ 5 * meshVertices x
   pub vertex-count : field s (32 * length (x .pool) + 32) 32 ≡ meshVertices x
   pub vertex-some : 1 ≤ meshVertices x

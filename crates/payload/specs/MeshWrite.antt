@@ -7,6 +7,7 @@ use lib.ListN.{length, getD, take, drop}
 use Rattle.bits.specs.Verdict.{Verdict, accepted, declined}
 use Rattle.bits.specs.Number.{widthOf}
 use Rattle.bits.specs.Put.{bytesOf}
+use Rattle.payload.specs.Float.{finiteWord}
 use Rattle.payload.specs.Mesh.{Submesh, Mesh}
 use Rattle.bits.specs.Run.{zeros, shift}
 use Rattle.payload.specs.MeshSpells.{meshVertices, meshType}
@@ -82,9 +83,13 @@ unfoldable pub every : List Bool → Bool
 every [] = true
 every (b ∷ l) = cond b (every l) false
 
-unfoldable pub allBelow : ℕ → List ℕ → Bool
-allBelow limit [] = true
-allBelow limit (x ∷ l) = cond (ltb x limit) (allBelow limit l) false
+-- a test of every number of a list
+unfoldable pub allOf : (ℕ → Bool) → List ℕ → Bool
+allOf test [] = true
+allOf test (x ∷ l) = cond (test x) (allOf test l) false
+
+abbrev pub allBelow : ℕ → List ℕ → Bool
+allBelow limit l = allOf (λ x. ltb x limit) l
 
 -- a texture and a mode of at most 255, and 1 to 128,000 points
 unfoldable pub rowWithin : ℕ → ℕ → ℕ → Bool
@@ -117,9 +122,10 @@ tests pool coordinates rows points =
 unfoldable pub isMesh : List ℕ → List ℕ → List ℕ → List ℕ → Bool
 isMesh pool coordinates rows points = every (tests pool coordinates rows points)
 
--- ---- writing: 13, or the box, free bits 0
+-- ---- writing: 13, then 17, or the box, free bits 0
 
 unfoldable pub meshWritten : List ℕ → List ℕ → List ℕ → List ℕ → Verdict (List ℕ)
 meshWritten pool coordinates rows points =
-    cond (isMesh pool coordinates rows points) (accepted (meshBox (tablesMesh pool coordinates rows points)))
+    cond (isMesh pool coordinates rows points)
+    (cond (allOf finiteWord pool) (accepted (meshBox (tablesMesh pool coordinates rows points))) (declined 17))
     (declined 13)

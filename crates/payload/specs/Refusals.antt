@@ -27,17 +27,17 @@ pub record EachCall (Plain Or12 : Claim) : Type 0 where
   -- the readers that are lent no buffer
   pub parse-equi : (s : List ℕ) → Plain _ (2 ∷ 3 ∷ 4 ∷ 10 ∷ []) (limited s (mapped withCrop (equiRead s)))
   pub parse-cbmp : (s : List ℕ) → Plain _ (2 ∷ 3 ∷ 4 ∷ 5 ∷ []) (limited s (cbmpRead s))
-  pub measure-mesh : (s : List ℕ) → Plain _ (2 ∷ 3 ∷ 7 ∷ 8 ∷ []) (mapped tableLengths (bodyRead s))
-  pub measure-meshes : (s : List ℕ) → Plain _ (2 ∷ 3 ∷ 6 ∷ 7 ∷ 8 ∷ []) (limited s (mapped listSize (readMeshes s)))
+  pub measure-mesh : (s : List ℕ) → Plain _ (2 ∷ 3 ∷ 7 ∷ 8 ∷ 17 ∷ []) (mapped tableLengths (bodyRead s))
+  pub measure-meshes : (s : List ℕ) → Plain _ (2 ∷ 3 ∷ 6 ∷ 7 ∷ 8 ∷ 17 ∷ []) (limited s (mapped listSize (readMeshes s)))
   -- those that are
   pub parse-mesh : (s : List ℕ) (buffers : List (List ℕ))
-      → Or12 _ (2 ∷ 3 ∷ 7 ∷ 8 ∷ []) (answerFor (tablesPlan s) buffers)
+      → Or12 _ (2 ∷ 3 ∷ 7 ∷ 8 ∷ 17 ∷ []) (answerFor (tablesPlan s) buffers)
   pub parse-meshes : (s : List ℕ) (buffers : List (List ℕ))
-      → Or12 _ (2 ∷ 3 ∷ 6 ∷ 7 ∷ 8 ∷ []) (answerFor (meshesPlan s) buffers)
+      → Or12 _ (2 ∷ 3 ∷ 6 ∷ 7 ∷ 8 ∷ 17 ∷ []) (answerFor (meshesPlan s) buffers)
   pub mesh-records : (s : List ℕ) (buffers : List (List ℕ))
-      → Or12 _ (2 ∷ 3 ∷ 6 ∷ 7 ∷ 8 ∷ []) (answerFor (recordsPlan s) buffers)
+      → Or12 _ (2 ∷ 3 ∷ 6 ∷ 7 ∷ 8 ∷ 17 ∷ []) (answerFor (recordsPlan s) buffers)
   pub texture-points : (s : List ℕ) (buffers : List (List ℕ))
-      → Or12 _ (2 ∷ 3 ∷ 6 ∷ 7 ∷ 8 ∷ []) (answerFor (inItems 2 (texturesFound s)) buffers)
+      → Or12 _ (2 ∷ 3 ∷ 6 ∷ 7 ∷ 8 ∷ 17 ∷ []) (answerFor (inItems 2 (texturesFound s)) buffers)
   -- the sphere and the cube
   pub sphere-indices-bounded : (rings sectors : ℕ) (b : Bounds) (buffers : List (List ℕ))
       → Or12 _ (9 ∷ 10 ∷ []) (answerFor (inItems 1 (sphereNumbers rings sectors b)) buffers)
@@ -59,7 +59,7 @@ pub record EachCall (Plain Or12 : Claim) : Type 0 where
   pub write-cbmp : (p : ℕ) (buffers : List (List ℕ))
       → Or12 _ (5 ∷ []) (answerFor (inItems 1 (cbmpWritten p)) buffers)
   pub write-mesh : (pool coordinates rows points : List ℕ) (buffers : List (List ℕ))
-      → Or12 _ (13 ∷ []) (answerFor (inItems 1 (meshWritten pool coordinates rows points)) buffers)
+      → Or12 _ (13 ∷ 17 ∷ []) (answerFor (inItems 1 (meshWritten pool coordinates rows points)) buffers)
   -- the counts
   pub vertex-count : (rings sectors : ℕ) → Plain _ (14 ∷ []) (vertexCount rings sectors)
   pub index-count : (rings sectors : ℕ) → Plain _ (14 ∷ []) (indexCount rings sectors)

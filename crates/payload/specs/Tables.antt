@@ -48,7 +48,7 @@ tableLengths x =
 
 -- ---- a body, and the lengths of its tables
 
--- its mesh, or the number of a refusal: 2, then 3, 7 and 8 in field order
+-- its mesh, or the number of a refusal: 2, then 3, 7, 8 and 17 in field order
 abbrev pub bodyRead : List ℕ → Verdict Mesh
 bodyRead s = limited s (mapped (λ x. x .0) (readMesh s))
 

@@ -5,7 +5,7 @@ use lib.ListN.{set}
 use Rattle.bits.specs.Verdict.{accepted, declined}
 use Rattle.payload.specs.Records.{recordsIn}
 use Rattle.payload.specs.Textures.{textureWords, texturesFound}
-use Rattle.payload.specs.MeshMarked.{oneBox, twoBoxes}
+use Rattle.payload.specs.MeshMarked.{oneBox, twoBoxes, infiniteAt}
 
 pub record TextureMarked : Type 0 where
   -- textures 5, 0, 5 and 0 with 3, 4, 2 and 6 points: 5 appears first
@@ -17,3 +17,5 @@ pub record TextureMarked : Type 0 where
   pub two-boxes : texturesFound twoBoxes ≡ accepted (0 ∷ 6 ∷ [])
   -- the third point is 3, of three vertices
   pub refused : texturesFound (set oneBox 38 0x0A) ≡ declined 8
+  -- the second word of the pool is an infinity
+  pub infinite : texturesFound (infiniteAt 16 oneBox) ≡ declined 17

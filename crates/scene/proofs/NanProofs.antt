@@ -1,4 +1,4 @@
--- No NaN and no infinity among the floats of kinds 0 and 1. Assumes nothing.
+-- No NaN and no infinity among the floats of any kind. Assumes nothing.
 use Prim.Native.Nat.{ℕ, _*_}
 use mathlib.Core.Path.{_≡_, _∙_}
 use mathlib.Core.Bool.{true}
@@ -7,12 +7,12 @@ use lib.Ieee.{binary32, ofBits, le, fits}
 use lib.Ieee.Scale.{finite}
 use borrow.Author.Tests.{lt-ltb}
 use Rattle.bits.specs.Verdict.{accepted}
-use Rattle.payload.specs.Float.{f0, f1, ratio}
+use Rattle.payload.specs.Float.{f0, f1, ratio, AllFinite}
 use Rattle.payload.specs.Sphere.{gridUvs, sphereUvs}
 use Rattle.payload.specs.Cube.{cubeFloats}
 use Rattle.payload.specs.NanLaws.{Number}
-use Rattle.payload.proofs.Theorems.{nan-laws, share-laws, sphere-uvs, cube-floats}
-use Rattle.scene.specs.Scene.{equi, cbmp, Given, GridLimits, CubeLimits, Call}
+use Rattle.payload.proofs.Theorems.{nan-laws, finite-laws, meshes-reads, share-laws, sphere-uvs, cube-floats}
+use Rattle.scene.specs.Scene.{equi, cbmp, mesh, Given, GridLimits, CubeLimits, Call}
 use Rattle.scene.specs.Laws.{InLimits, FittingReading, drawn}
 use Rattle.scene.specs.NanLaws.{SceneNumbers}
 use Rattle.scene.proofs.SceneProofs.{grid-usable, cells-usable}
@@ -53,5 +53,9 @@ cube c i f ρ b m =
       nan-laws .points-finite (g .cells) (g .radius) part (drawn ρ .floats) b f e m,
     )
 
+mesh-list : (c : Call) → InLimits mesh c → (ρ : FittingReading mesh c) → AllFinite (drawn ρ .floats)
+mesh-list c i ρ =
+    finite-laws .drawn (c .payload) (ρ .reading) (meshes-reads .reads (ρ .reading) (c .payload) .1 (ρ .spells))
+
 pub scene-numbers : SceneNumbers
-scene-numbers = record { sphere = sphere; cube = cube }
+scene-numbers = record { sphere = sphere; cube = cube; mesh-list = mesh-list }

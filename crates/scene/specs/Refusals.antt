@@ -10,7 +10,7 @@ use Rattle.scene.specs.Scene.{Call, sceneAnswer}
 pub record SceneRefusals : Type 0 where
   pub kind-0 : (c : Call) → c .kind ≡ 0 → RefusesOr12 (2 ∷ 3 ∷ 4 ∷ 9 ∷ 10 ∷ []) (sceneAnswer c)
   pub kind-1 : (c : Call) → c .kind ≡ 1 → RefusesOr12 (2 ∷ 3 ∷ 4 ∷ 5 ∷ 9 ∷ 11 ∷ []) (sceneAnswer c)
-  pub kind-2 : (c : Call) → c .kind ≡ 2 → RefusesOr12 (2 ∷ 3 ∷ 6 ∷ 7 ∷ 8 ∷ []) (sceneAnswer c)
+  pub kind-2 : (c : Call) → c .kind ≡ 2 → RefusesOr12 (2 ∷ 3 ∷ 6 ∷ 7 ∷ 8 ∷ 17 ∷ []) (sceneAnswer c)
   -- any other kind is refused with 1
   pub other : (c : Call) → 2 < c .kind → sceneAnswer c ≡ declined 1
 

@@ -28,7 +28,7 @@ pub fn write_mesh(tables: &Tables, out: &mut [u8]) -> Result<usize, Refusal> {
     Ok(size)
 }
 
-/// The size of the box, if the tables are a mesh and it is not too long.
+/// The size of the box, if the tables are a mesh of finite words and it is not too long.
 fn judge(tables: &Tables) -> Option<usize> {
     let [pool, numbers, words, points] = tables.lengths();
     let vertices = tables.vertices();
@@ -39,10 +39,15 @@ fn judge(tables: &Tables) -> Option<usize> {
         && words % ROW == 0
         && counted(&tables.submeshes)? == points
         && all_below(&tables.coordinates, pool)
-        && all_below(&tables.points, vertices);
+        && all_below(&tables.points, vertices)
+        && all_finite(&tables.pool);
     is_mesh
         .then(|| box_size(pool, vertices, words / ROW, points))
         .filter(|&size| size <= LONGEST)
+}
+
+fn all_finite(pool: &[u32]) -> bool {
+    pool.iter().all(|&word| f32::from_bits(word).is_finite())
 }
 
 /// The points of rows that are within the limits.

@@ -17,3 +17,5 @@ pub const NO_MESH: i64 = 13;
 pub const TOO_MANY: i64 = 14;
 pub const RECORDS: i64 = 15;
 pub const WIDE: i64 = 16;
+/// A pool word is not finite.
+pub const BAD_WORD: i64 = 17;

@@ -61,6 +61,8 @@ pub enum Refusal {
     Records,
     /// 16: a field width is above 32.
     FieldWidth,
+    /// 17: a pool word is an infinity or a NaN.
+    NotFinite,
 }
 
 /// The lengths that 12 tells.
@@ -75,7 +77,7 @@ pub enum Needed {
 }
 
 impl Refusal {
-    /// 1 to 16.
+    /// 1 to 17.
     pub const fn number(self) -> u8 {
         match self {
             Refusal::Kind => 1,
@@ -94,6 +96,7 @@ impl Refusal {
             Refusal::CountTooLarge => 14,
             Refusal::Records => 15,
             Refusal::FieldWidth => 16,
+            Refusal::NotFinite => 17,
         }
     }
 
@@ -103,12 +106,12 @@ impl Refusal {
     /// use hoodsorrel::Refusal;
     ///
     /// assert_eq!(Refusal::from_number(8), Some(Refusal::RunningNumber));
-    /// assert_eq!(Refusal::from_number(16), Some(Refusal::FieldWidth));
-    /// assert_eq!([0, 12, 17].map(Refusal::from_number), [None; 3]);
+    /// assert_eq!(Refusal::from_number(17), Some(Refusal::NotFinite));
+    /// assert_eq!([0, 12, 18].map(Refusal::from_number), [None; 3]);
     /// ```
     pub fn from_number(number: u8) -> Option<Refusal> {
         match number {
-            1..=11 | 13..=16 => Some(Refusal::of_code(-i64::from(number), Needed::One(0))),
+            1..=11 | 13..=17 => Some(Refusal::of_code(-i64::from(number), Needed::One(0))),
             _ => None,
         }
     }
@@ -148,6 +151,7 @@ impl Refusal {
                  or all counts together, is above 4,294,967,295"
             }
             Refusal::FieldWidth => "a field width is above 32",
+            Refusal::NotFinite => "a pool word is an infinity or a NaN",
         }
     }
 
@@ -178,6 +182,7 @@ impl Refusal {
             -13 => Refusal::NotAMesh,
             -15 => Refusal::Records,
             -16 => Refusal::FieldWidth,
+            -17 => Refusal::NotFinite,
             _ => Refusal::CountTooLarge,
         }
     }
@@ -216,7 +221,7 @@ mod tests {
     use super::{Needed, Refusal};
 
     fn numbers() -> impl Iterator<Item = u8> {
-        1..=16
+        1..=17
     }
 
     #[test]

@@ -6,7 +6,7 @@
 //! |---|---|---|---|
 //! | [`EQUI`] | the triangles of the covered patch, as vertex numbers | u and v of each vertex | none |
 //! | [`CBMP`] | the triangles of the six faces, as vertex numbers | x, y, z, u and v of each vertex | none |
-//! | [`MESHES`] | five coordinate numbers for each vertex | x, y, z, u and v of each point | five words for each submesh |
+//! | [`MESHES`] | five coordinate numbers for each vertex | x, y, z, u and v of each point | five words per submesh |
 
 use crate::answer::{Answer, asked, low, size};
 use crate::memory;
@@ -105,8 +105,8 @@ pub struct SceneAnswer {
 
 /// Draws a payload of a kind into three lent buffers.
 ///
-/// Refused with 1, 2, then 3 to 8 in payload order, then 9, 10, 11 and 12. Unless it is accepted the buffers stay as
-/// they were.
+/// Refused with 1, 2, then 3 to 8 and 17 in payload order, then 9, 10, 11 and 12. Unless it is accepted the buffers
+/// stay as they were.
 ///
 /// ```
 /// use hoodsorrel::scene::{scene, Named, CBMP};
@@ -243,7 +243,7 @@ pub struct Drawing {
     pub named: Named,
     /// Vertex numbers of triangles; of a mesh list, coordinate numbers.
     pub numbers: Vec<u16>,
-    /// The floats of the vertices, or of a mesh list's points.
+    /// The floats of the vertices, or of a mesh list's points. All are finite.
     pub floats: Vec<f32>,
     /// The records of a mesh list.
     pub records: Vec<u32>,

@@ -16,7 +16,7 @@ use crate::refusal::{Needed, Refusal};
 
 /// How many points the mesh list of a kind 2 payload draws.
 ///
-/// Refused with 2, 3, 6, 7 or 8.
+/// Refused with 2, 3, 6, 7, 8 or 17.
 ///
 /// ```
 /// use hoodsorrel::viewer::measure_meshes;

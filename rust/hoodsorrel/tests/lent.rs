@@ -170,20 +170,46 @@ fn tables() {
     }
 }
 
-/// The bits of a pool's words go through unchanged, also those of NaNs.
+/// A mesh of one word.
+fn worded(word: u32) -> MeshTables {
+    MeshTables {
+        pool: vec![word],
+        coordinates: vec![0; 5],
+        submeshes: vec![255, 255, 2],
+        points: vec![0; 2],
+    }
+}
+
+/// The bits of a pool's words go through unchanged, also those of zeros, subnormals and the largest floats.
 #[test]
 fn bits_of_words() {
-    for word in [0u32, 0x8000_0000, 0x7F80_0001, 0xFFC0_1234, 0x7FFF_FFFF] {
-        let mesh = MeshTables {
-            pool: vec![word],
-            coordinates: vec![0; 5],
-            submeshes: vec![255, 255, 2],
-            points: vec![0; 2],
-        };
+    for word in [0u32, 0x8000_0000, 1, 0x807F_FFFF, 0x7F7F_FFFF, 0xFF7F_FFFF] {
+        let mesh = worded(word);
         let list = mesh.write().expect("a mesh");
         let drawing = Drawing::of(MESHES, &list, &Given::default()).expect("a list");
         assert!(drawing.floats.iter().all(|x| x.to_bits() == word));
         assert_eq!(MeshTables::of(&list[BODY..]), Ok(mesh));
+    }
+}
+
+/// An infinity and a NaN are neither written nor read.
+#[test]
+fn words_that_are_not_finite() {
+    let list = worded(0).write().expect("a mesh");
+    for word in [
+        0x7F80_0000u32,
+        0xFF80_0000,
+        0x7F80_0001,
+        0x7FC0_0000,
+        0xFFFF_FFFF,
+    ] {
+        assert_eq!(worded(word).write(), Err(Refusal::NotFinite));
+        let mut list = list.clone();
+        list[BODY + 4..BODY + 8].copy_from_slice(&word.to_be_bytes());
+        let refusal = Drawing::of(MESHES, &list, &Given::default()).err();
+        assert_eq!(refusal, Some(Refusal::NotFinite));
+        let refusal = MeshTables::of(&list[BODY..]).err();
+        assert_eq!(refusal, Some(Refusal::NotFinite));
     }
 }
 

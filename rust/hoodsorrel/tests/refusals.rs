@@ -38,21 +38,24 @@ fn good_body() -> Vec<u8> {
 }
 
 /// The numbers of a mesh body, each with a body that is refused with it.
-fn bad_bodies() -> [(u8, Vec<u8>); 4] {
+fn bad_bodies() -> [(u8, Vec<u8>); 5] {
     let mut stray = good_body();
     stray[12] = 0x80;
+    let mut infinite = good_body();
+    infinite[4..6].copy_from_slice(&[0x7F, 0x80]);
     [
         (2, vec![0; LONGEST + 1]),
         (3, good_body()[..23].to_vec()),
         (7, vec![0; 4]),
         (8, stray),
+        (17, infinite),
     ]
 }
 
 /// The same for mesh lists.
 fn bad_lists() -> Vec<(u8, Vec<u8>)> {
-    let [_, short, count, stray] = bad_bodies();
-    let mut lists: Vec<(u8, Vec<u8>)> = [short, count, stray]
+    let [_, short, count, stray, infinite] = bad_bodies();
+    let mut lists: Vec<(u8, Vec<u8>)> = [short, count, stray, infinite]
         .into_iter()
         .map(|(number, body)| (number, boxed(&body)))
         .collect();
@@ -176,6 +179,8 @@ fn meshes(met: &mut Met) {
     met.refused("write_mesh", 13, write_mesh(&[], &[], &[], &[], &mut []));
     let answer = write_mesh(&[0], &[0; 5], &[0, 0, 1], &[0], &mut [0; 31]);
     met.refused("write_mesh", 12, answer);
+    let answer = write_mesh(&[0x7F80_0000], &[0; 5], &[0, 0, 1], &[0], &mut []);
+    met.refused("write_mesh", 17, answer);
     for (number, list) in bad_lists() {
         met.refused("measure_meshes", number, measure_meshes(&list));
         met.refused(

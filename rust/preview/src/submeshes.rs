@@ -47,22 +47,20 @@ impl Submesh<'_> {
     }
 
     /// One path on a picture about as wide as `width`: triangles, or the points as dots. `at` says where a point lies
-    /// on the page; a triangle with a point that lies nowhere is left out.
-    pub fn draw(&self, svg: &mut Svg, width: f64, at: impl Fn([f64; POINT]) -> Option<Point>) {
+    /// on the page.
+    pub fn draw(&self, svg: &mut Svg, width: f64, at: impl Fn([f64; POINT]) -> Point) {
         let place = |point: u32| at(coordinates(&self.scene.floats[POINT * point as usize..]));
         let mut path = Path::default();
         let style = match triangles(self.record) {
             Some(points) => {
                 for corners in points.as_chunks::<3>().0 {
-                    if let [Some(a), Some(b), Some(c)] = corners.map(place) {
-                        path.triangle([a, b, c]);
-                    }
+                    path.triangle(corners.map(place));
                 }
                 let size = width / f64::from(self.record[4]).sqrt();
                 triangles_style(colour(self.number), size)
             }
             None => {
-                self.points().filter_map(&at).for_each(|at| path.dot(at));
+                self.points().map(&at).for_each(|at| path.dot(at));
                 dots_style(colour(self.number))
             }
         };

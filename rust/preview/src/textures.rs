@@ -16,9 +16,9 @@ const NOTE: f64 = 16.0;
 /// Draws the panels, and answers where they end.
 pub fn draw(svg: &mut Svg, area: Area, scene: &Scene, counts: &Counts) -> f64 {
     let shown = (counts.meshes as usize).min(PANELS);
-    let notes = notes(scene, counts, shown);
+    let notes = notes(counts, shown);
     let height = area.height - NOTE * notes.len() as f64;
-    let extent = Extent::of(points(scene).filter_map(finite));
+    let extent = Extent::of(points(scene).map(uv));
     let panels = Panels::new(Area { height, ..area }, shown, extent);
     for mesh in 0..shown {
         svg.words(panels.heading(mesh), "", &format!("mesh {mesh}"));
@@ -26,9 +26,7 @@ pub fn draw(svg: &mut Svg, area: Area, scene: &Scene, counts: &Counts) -> f64 {
     }
     for submesh in submeshes(scene).filter(|submesh| submesh.mesh < shown) {
         let view = panels.view(submesh.mesh);
-        submesh.draw(svg, view.scale.x, |point| {
-            finite(point).map(|uv| view.at(uv))
-        });
+        submesh.draw(svg, view.scale.x, |point| view.at(uv(point)));
     }
     let mut at = point(area.left, panels.bottom());
     for note in notes {
@@ -38,24 +36,15 @@ pub fn draw(svg: &mut Svg, area: Area, scene: &Scene, counts: &Counts) -> f64 {
     at.y
 }
 
-/// u and v of a point, where both are finite.
-fn finite([_, _, _, u, v]: [f64; POINT]) -> Option<Point> {
-    (u.is_finite() && v.is_finite()).then_some(point(u, v))
+fn uv([_, _, _, u, v]: [f64; POINT]) -> Point {
+    point(u, v)
 }
 
-fn notes(scene: &Scene, counts: &Counts, shown: usize) -> Vec<String> {
-    let uvs = points(scene).map(finite);
-    let left_out = uvs.filter(Option::is_none).count() as u64;
+fn notes(counts: &Counts, shown: usize) -> Vec<String> {
     let more = counts.meshes - shown as u64;
     let mut notes = Vec::new();
     if counts.meshes == 0 {
         notes.push("no meshes".to_string());
-    }
-    if left_out > 0 {
-        notes.push(format!(
-            "points left out, as u or v is not finite: {}",
-            thousands(left_out)
-        ));
     }
     if more > 0 {
         notes.push(format!("meshes left out: {}", thousands(more)));
@@ -66,7 +55,6 @@ fn notes(scene: &Scene, counts: &Counts, shown: usize) -> Vec<String> {
 #[cfg(test)]
 mod tests {
     use super::*;
-    use crate::scene::Reading;
     use crate::testing;
 
     fn points(uvs: &[(f32, f32)]) -> Vec<[f32; POINT]> {
@@ -96,48 +84,28 @@ mod tests {
     }
 
     #[test]
-    fn one_path_with_the_triangles_of_finite_points() {
-        let mut uvs = [(0.0, 0.0), (1.0, 0.0), (0.0, 1.0), (1.0, 1.0), (0.5, 0.5)];
-        for (mode, triangles, less) in [(0, 1, 1), (1, 3, 2), (2, 3, 2)] {
-            uvs[4].0 = 0.5;
+    fn one_path_with_all_triangles() {
+        let uvs = [(0.0, 0.0), (1.0, 0.0), (0.0, 1.0), (1.0, 1.0), (0.5, 0.5)];
+        for (mode, triangles) in [(0, 1), (1, 3), (2, 3)] {
             let svg = drawn(mode, &uvs);
             assert_eq!(svg.matches("<path").count(), 1);
             assert_eq!(svg.matches('M').count(), triangles);
             assert!(!svg.contains("left out"));
-            uvs[4].0 = f32::INFINITY;
-            let svg = drawn(mode, &uvs);
-            assert_eq!(svg.matches('M').count(), less);
-            assert!(svg.contains("not finite: 1<"));
         }
     }
 
     #[test]
     fn another_mode_has_dots() {
-        let svg = drawn(9, &[(0.0, 0.0), (f32::NAN, 0.0), (0.0, 1.0)]);
+        let svg = drawn(9, &[(0.0, 0.0), (f32::MAX, 0.0), (0.0, 1.0)]);
         assert_eq!(
             (svg.matches("h0").count(), svg.matches("<path").count()),
-            (2, 1)
+            (3, 1)
         );
     }
 
     #[test]
     fn notes_of_what_is_not_drawn() {
-        let uvs = [(0.0, f32::NAN), (f32::NEG_INFINITY, 0.0), (1.0, 1.0)];
-        let scene = testing::scene(0, &points(&uvs));
-        assert_eq!(
-            notes(&scene, &counts(30), PANELS),
-            [
-                "points left out, as u or v is not finite: 2",
-                "meshes left out: 6"
-            ]
-        );
-        let empty = Scene {
-            reading: Reading::Meshes(counts(0)),
-            numbers: Vec::new(),
-            floats: Vec::new(),
-            records: Vec::new(),
-            textures: Vec::new(),
-        };
-        assert_eq!(notes(&empty, &counts(0), 0), ["no meshes"]);
+        assert_eq!(notes(&counts(30), PANELS), ["meshes left out: 6"]);
+        assert_eq!(notes(&counts(0), 0), ["no meshes"]);
     }
 }

@@ -1,15 +1,18 @@
 // Whether four tables are a mesh, and how long its box is. Nothing is written before all is judged.
+use super::fields::word_is_finite;
 ghost use mathlib.Core.Path.{_≡_};
 ghost use Prim.Native.Nat.{_≤_};
 ghost use lib.ListN.{length};
 ghost use Rattle.bits.specs.Verdict.{mapped};
-ghost use Rattle.payload.specs.MeshWrite.{allBelow, meshWritten};
+ghost use Rattle.payload.specs.Float.{finiteWord};
+ghost use Rattle.payload.specs.MeshWrite.{allOf, allBelow, meshWritten};
 ghost use Rattle.payload.specs.InternalWriting.{rowFits, rowsFit, countsFit, lengthsFit, sizeOf, judgedSays};
 
-// The size of the tables' box, or that they are no mesh.
+// The size of the tables' box, or that they are no mesh, or that a word of the pool is not finite.
 pub(in crate::mesh) enum Judged {
     Size(usize),
     NoMesh,
+    NotFinite,
 }
 
 // Every number is below limit. All of them are looked at, since a loop without a way out takes many at a time.
@@ -23,6 +26,19 @@ fn all_below(ns: &[u16], limit: u16) -> bool
         i += 1;
     }
     !above
+}
+
+// Every word is finite, found alike.
+fn all_finite(words: &[u32]) -> bool
+    ensures { λ r. ⌜ r ≡ allOf finiteWord (now (words .entry)) ⌝ }
+{
+    let mut other = false;
+    let mut i = 0;
+    while i < words.len() {
+        other = other | !word_is_finite(words[i]);
+        i += 1;
+    }
+    !other
 }
 
 // A row of the submesh table is within the limits, and its points are no more than are left.
@@ -123,6 +139,9 @@ pub(in crate::mesh) fn judge(
     }
     if !all_below(points, (v / 5) as u16) {
         return Judged::NoMesh;
+    }
+    if !all_finite(pool) {
+        return Judged::NotFinite;
     }
     Judged::Size(size)
 }

@@ -1,7 +1,9 @@
 // The validating pass over a mesh list: it answers every refusal but 12, and how long the drawing is, and touches
 // nothing.
 use super::MESH;
+use super::fields::PoolWord;
 use super::fields::one_field;
+use super::fields::pool_word;
 use super::fields::word;
 use bits::BoxHeader;
 use bits::ByteCursor;
@@ -12,10 +14,11 @@ ghost use Prim.Native.Nat.{_+_, _*_, _≤_, _<_};
 ghost use lib.ListN.{length};
 ghost use Rattle.bits.specs.Verdict.{mapped};
 ghost use Rattle.bits.specs.Verdict.{limited};
-ghost use Rattle.payload.specs.MeshRead.{many, readSubmesh, readSubmeshes, readMesh, readMeshes};
-ghost use Rattle.payload.specs.Internal.{afterCounts, SubmeshPlace, pointsEnd, submeshesSize, bodySize, Room};
-ghost use Rattle.payload.specs.Internal.{withBody, boxTotals, noTotals, totalsOf, submeshSays, submeshesSays};
-ghost use Rattle.payload.specs.Internal.{bodySays, totalsSays};
+ghost use Rattle.payload.specs.MeshRead.{many, readWord, readSubmesh, readSubmeshes, afterPoolCount, readMesh};
+ghost use Rattle.payload.specs.MeshRead.{readMeshes};
+ghost use Rattle.payload.specs.Internal.{afterCounts, PoolThere, SubmeshPlace, pointsEnd, submeshesSize};
+ghost use Rattle.payload.specs.Internal.{bodySize, Room, withBody, boxTotals, noTotals, totalsOf, poolSays};
+ghost use Rattle.payload.specs.Internal.{nothing, submeshSays, submeshesSays, bodySays, totalsSays};
 ghost use Rattle.payload.specs.Meshes.{listSize, measuredSays};
 ghost use Rattle.payload.specs.Tables.{tableLengths, bodyRead, tableLengthsSays};
 
@@ -143,24 +146,39 @@ fn check_from_vertices(s: &[u8], n: u32, m: u32) -> BodySize
     }
 }
 
-// A mesh body.
-fn check_mesh(s: &[u8]) -> BodySize
-    requires { ⌜ length (now s) ≤ 67108864 ⌝ }
-    ensures { λ r. ⌜ bodySays r ≡ mapped bodySize (readMesh (now (s .entry))) ⌝ }
+// Whether the words of a pool are good, or the number of a refusal.
+enum PoolCheck {
+    Good,
+    Declined(u8),
+}
+
+// The n words of a pool, one after the other: 3 where one is not there, 17 where one is not finite.
+fn check_pool(s: &[u8], n: u32) -> PoolCheck
+    requires { ⌜ (length (now s) ≤ 67108864) × (4 ≤ length (now s)) × (n ≤ 10000) ⌝ }
+    ensures { λ r. ⌜ poolSays r ≡ mapped nothing (many (readWord (now (s .entry))) n 32) ⌝ }
 {
-    let end = s.len() * 8;
-    if end < 32 {
-        return BodySize::Declined(3);
+    let mut at: usize = 4;
+    let mut left = n;
+    while 0 < left {
+        match pool_word(s, at) {
+            PoolWord::Declined(k) => {
+                return PoolCheck::Declined(k);
+            }
+            PoolWord::Finite(_) => {
+                at += 4;
+                left -= 1;
+            }
+        }
     }
-    let n = word(s, 0);
-    if n < 1 {
-        return BodySize::Declined(7);
-    }
-    if 10_000 < n {
-        return BodySize::Declined(7);
-    }
-    let start = 32 * (n as usize) + 64;
-    if end < start {
+    PoolCheck::Good
+}
+
+// From the vertex count on, after a pool of n good words.
+fn check_after_pool(s: &[u8], n: u32) -> BodySize
+    requires { ⌜ (length (now s) ≤ 67108864) × (1 ≤ n) × (n ≤ 10000) × PoolThere (now s) n ⌝ }
+    ensures { λ r. ⌜ bodySays r ≡ mapped bodySize (afterPoolCount (now (s .entry)) n) ⌝ }
+{
+    if s.len() * 8 < 32 * (n as usize) + 64 {
         return BodySize::Declined(3);
     }
     let m = word(s, 4 * (n as usize) + 4);
@@ -171,6 +189,27 @@ fn check_mesh(s: &[u8]) -> BodySize
         return BodySize::Declined(7);
     }
     check_from_vertices(s, n, m)
+}
+
+// A mesh body.
+fn check_mesh(s: &[u8]) -> BodySize
+    requires { ⌜ length (now s) ≤ 67108864 ⌝ }
+    ensures { λ r. ⌜ bodySays r ≡ mapped bodySize (readMesh (now (s .entry))) ⌝ }
+{
+    if s.len() < 4 {
+        return BodySize::Declined(3);
+    }
+    let n = word(s, 0);
+    if n < 1 {
+        return BodySize::Declined(7);
+    }
+    if 10_000 < n {
+        return BodySize::Declined(7);
+    }
+    match check_pool(s, n) {
+        PoolCheck::Declined(k) => BodySize::Declined(k),
+        PoolCheck::Good => check_after_pool(s, n),
+    }
 }
 
 // What was counted of a list so far.
@@ -248,7 +287,7 @@ fn measure_list(s: &[u8]) -> Totalled
     }
 }
 
-// Measures a mesh list: 2, then 3, 6, 7 and 8 in payload order.
+// Measures a mesh list: 2, then 3, 6, 7, 8 and 17 in payload order.
 pub fn measure_meshes(payload: &[u8]) -> Measured
     ensures { λ r. ⌜ measuredSays r
         ≡ limited (now (payload .entry)) (mapped listSize (readMeshes (now (payload .entry)))) ⌝ }
@@ -283,7 +322,7 @@ pub enum MeshMeasured {
     Declined(u8),
 }
 
-// Measures a mesh body: 2, then 3, 7 and 8 in field order.
+// Measures a mesh body: 2, then 3, 7, 8 and 17 in field order.
 pub fn measure_mesh(body: &[u8]) -> MeshMeasured
     ensures { λ r. ⌜ tableLengthsSays r ≡ mapped tableLengths (bodyRead (now (body .entry))) ⌝ }
 {

@@ -161,8 +161,8 @@ pub enum RecordsAnswer {
     Declined(u8),
 }
 
-// The records of a mesh list, without its points: 2, then 3, 6, 7 and 8 in payload order, then 12. Unless it answers
-// `Counts`, the buffer stays as it was.
+// The records of a mesh list, without its points: 2, then 3, 6, 7, 8 and 17 in payload order, then 12. Unless it
+// answers `Counts`, the buffer stays as it was.
 pub fn mesh_records(payload: &[u8], records: &mut [u32]) -> RecordsAnswer
     ensures answer { λ r. ⌜ recordsSays r
         ≡ answerFor (recordsPlan (now (payload .entry))) (atEntry (records ∷ [])) ⌝ }

@@ -126,8 +126,8 @@ pub enum TablesAnswer {
     Declined(u8),
 }
 
-// Reads a mesh body into tables: 2, then 3, 7 and 8 in field order, then 12. Unless it answers `Tables`, the buffers
-// stay as they were.
+// Reads a mesh body into tables: 2, then 3, 7, 8 and 17 in field order, then 12. Unless it answers `Tables`, the
+// buffers stay as they were.
 pub fn parse_mesh(
     body: &[u8],
     pool: &mut [u32],

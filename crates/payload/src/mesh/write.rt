@@ -242,7 +242,8 @@ fn put_box(
     finish(out, d);
 }
 
-// Writes the box of a mesh, given by the tables that `parse_mesh` fills, at the front of a buffer: 13, then 12.
+// Writes the box of a mesh, given by the tables that `parse_mesh` fills, at the front of a buffer: 13,
+// then 17, then 12.
 pub fn write_mesh(
     pool: &[u32],
     coordinates: &[u16],
@@ -257,6 +258,7 @@ pub fn write_mesh(
 {
     match judge(pool, coordinates, submeshes, points) {
         Judged::NoMesh => Filled::Declined(13),
+        Judged::NotFinite => Filled::Declined(17),
         Judged::Size(n) => {
             if out.len() < n {
                 return Filled::Needs(n);

@@ -10,6 +10,7 @@ use crate::mesh::body::{agrees, measured, parsed, Due};
 use crate::mesh::damage::{damaged, every_bit, every_count, every_stray, stray};
 use crate::mesh::model::parse_mesh;
 use crate::mesh::payloads::{self, m1, sized};
+use crate::mesh::words::{every_body, NOT_FINITE};
 
 /// Random bodies that are taken as they are.
 const WHOLE: usize = 6;
@@ -39,8 +40,8 @@ pub fn add(list: &mut List, random: &mut Random) {
         let due = due(&body);
         parse(list, &body, &due, every_lent(random, &due)[0]);
     }
-    for body in faults_of_m1() {
-        on_one(list, random, &body);
+    for body in faults_of_m1().iter().chain(&words_of_m1()) {
+        on_one(list, random, body);
     }
     for _ in 0..RANDOM {
         let mut mesh = small(random);
@@ -63,7 +64,7 @@ pub fn add_measured(list: &mut List, random: &mut Random) {
     for (pool, vertices, points) in LARGE {
         measure(&spell::body(&sized(random, pool, vertices, points)).bytes);
     }
-    for body in faults_of_m1().iter().step_by(2) {
+    for body in faults_of_m1().iter().step_by(2).chain(&words_of_m1()) {
         measure(body);
     }
     for _ in 0..RANDOM {
@@ -96,6 +97,13 @@ fn faults_of_m1() -> Vec<Vec<u8>> {
         every_stray(&mesh, |strayed| each(&spell::body(strayed).bytes))
     }));
     bodies
+}
+
+/// The same mesh with words at the limits of what is finite, alone and beside other faults.
+fn words_of_m1() -> Vec<Vec<u8>> {
+    thinned(5, |each| {
+        every_body(&m1(), NOT_FINITE[0], |body, _| each(body))
+    })
 }
 
 /// The model's tables, where the Rust draws the same points.

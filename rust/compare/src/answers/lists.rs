@@ -9,6 +9,7 @@ use crate::lent::tables::{lengths, refused_lengths};
 use crate::mesh::damage::{damaged, every_bit, every_count, every_size, every_stray_of, stray_of};
 use crate::mesh::lists::{due, measured, parsed, recorded, Due};
 use crate::mesh::payloads::{self, lone, m1, sized};
+use crate::mesh::words::{every_list, NOT_FINITE};
 use crate::scene::list_faults::{faulty_list, LIST_FAULTS};
 
 /// Random lists, and damaged copies of each.
@@ -71,8 +72,8 @@ pub fn large(random: &mut Random) -> Vec<Vec<u8>> {
     LARGE.map(mesh).into()
 }
 
-/// Document 01's m1: cut, with other counts and sizes, with bits turned over, and with numbers that
-/// leave their range.
+/// Document 01's m1: cut, with other counts and sizes, with bits turned over, with numbers that leave
+/// their range, and with words at the limits of what is finite.
 pub fn faults_of_m1() -> Vec<Vec<u8>> {
     let list = payloads::List {
         parts: vec![Part::Mesh(m1())],
@@ -85,6 +86,9 @@ pub fn faults_of_m1() -> Vec<Vec<u8>> {
     payloads.extend(thinned(11, |each| every_bit(bytes, each)));
     payloads.extend(thinned(4, |each| every_size(&list, each)));
     payloads.extend(thinned(2, |each| every_stray_of(&list, each)));
+    payloads.extend(thinned(7, |each| {
+        every_list(&m1(), NOT_FINITE[0], |payload, _| each(payload))
+    }));
     payloads
 }
 

@@ -60,7 +60,7 @@ const GROUPS: [Group; 21] = [
 
 const SOURCE: &str = "\
 # Calls, and the answers that are due to them: those of mesh.rs and pano.rs with the number of a
-# refusal, or where these do not answer those of rust/compare. Made with seed ";
+# refusal, or where these are not asked those of rust/compare. Made with seed ";
 
 const FORM: &str = "\
 #

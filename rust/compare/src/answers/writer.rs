@@ -7,12 +7,17 @@ use crate::inputs::random::Random;
 use crate::lent::tables::{lengths, refused_lengths};
 use crate::mesh::lists::fits;
 use crate::mesh::payloads::{self, m1, sized};
-use crate::mesh::spoils::{every_place, SPOILS};
+use crate::mesh::spoils::{every_place, SPOILS, WORD};
+use crate::mesh::words::{every_word, NOT_FINITE};
 use crate::mesh::writer::put;
 use crate::mesh::writer_model::write_mesh;
 
 /// Random meshes.
 const RANDOM: usize = 12;
+/// With a word that is not finite every so manieth spoil.
+const STEP: usize = 5;
+/// And of such words alone every so manieth.
+const WORDS: usize = 3;
 /// The most bytes of the tables of a random mesh.
 const LONG: usize = 200;
 /// Pool words, vertices and points. Two boxes are longer than the longest buffer.
@@ -40,7 +45,22 @@ pub fn add(list: &mut List, random: &mut Random) {
         spoil(&mut tables, random);
         write(list, random, &tables);
     }
+    for (_, spoil) in SPOILS.into_iter().step_by(STEP) {
+        let mut tables = small(random);
+        spoil(&mut tables, random);
+        WORD.1(&mut tables, random);
+        write(list, random, &tables);
+    }
     every_place(&Tables::from(&m1()), |tables| write(list, random, tables));
+    let mut worded = Vec::new();
+    every_word(&m1(), &NOT_FINITE, |mesh| worded.push(Tables::from(mesh)));
+    for tables in worded.iter().step_by(WORDS) {
+        let due = write_mesh(tables);
+        // No bytes are too few as well, which comes after the word.
+        for n in [0, MOST_OUT] {
+            write_on(list, tables, &due, n);
+        }
+    }
 }
 
 fn small(random: &mut Random) -> Tables {

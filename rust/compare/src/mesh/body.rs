@@ -13,7 +13,8 @@ use crate::mesh::damage::{damaged, every_byte, every_stray, stray};
 use crate::mesh::drawing::Drawing;
 use crate::mesh::lists::{fits, LONGER};
 use crate::mesh::model::{self, Mesh};
-use crate::mesh::payloads::{self, large_counts, m1, sized};
+use crate::mesh::payloads::{self, large_counts, sized};
+use crate::mesh::words::{every_body, m1_and_infinite, spoil_word, NOT_FINITE};
 use crate::options::Options;
 use crate::tally::Tally;
 
@@ -33,6 +34,7 @@ struct Bodies {
     parsed: Tally,
     measured: Tally,
     beyond: Tally,
+    order: Tally,
 }
 
 pub fn run(options: &Options) -> Vec<Tally> {
@@ -46,7 +48,15 @@ pub fn run(options: &Options) -> Vec<Tally> {
     }
     bodies.large();
     bodies.longest();
-    vec![bodies.model, bodies.parsed, bodies.measured, bodies.beyond]
+    let Bodies {
+        model,
+        parsed,
+        measured,
+        beyond,
+        order,
+        ..
+    } = bodies;
+    vec![model, parsed, measured, beyond, order]
 }
 
 impl Bodies {
@@ -62,17 +72,38 @@ impl Bodies {
             measured: tally("mesh measured", "the same lengths and refusals"),
             beyond: tally(
                 "mesh beyond the Rust",
-                "calls on more than 65536 submeshes or 67108864 bytes against the model",
+                "more than 65536 submeshes or 67108864 bytes, or a word that is not finite, against the model",
+            ),
+            order: tally(
+                "mesh order",
+                "the model's refusal against the first in field order of a word that is not finite and another fault",
             ),
         }
     }
 
+    /// Of a mesh whose words are finite, and with one that is not.
     fn every_damage(&mut self) {
-        let mesh = payloads::mesh(&mut self.random);
-        let spelled = spell::body(&mesh);
+        let mut mesh = payloads::mesh(&mut self.random);
+        self.every_damage_of(&mesh);
+        let bad = self.random.pick(&NOT_FINITE);
+        every_body(&mesh, bad, |body, refusal| self.check_order(body, refusal));
+        spoil_word(&mut self.random, &mut mesh.pool);
+        self.every_damage_of(&mesh);
+    }
+
+    fn every_damage_of(&mut self, mesh: &spell::Mesh) {
+        let spelled = spell::body(mesh);
         self.check(&spelled.bytes);
         every_byte(&spelled, |body| self.check(body));
-        every_stray(&mesh, |strayed| self.check(&spell::body(strayed).bytes));
+        every_stray(mesh, |strayed| self.check(&spell::body(strayed).bytes));
+    }
+
+    /// The refusal is known without a look at the body.
+    fn check_order(&mut self, body: &[u8], refusal: Option<i64>) {
+        let model = model::parse_mesh(body).reading.err();
+        self.order
+            .check(model.unwrap_or(0), refusal.unwrap_or(0), || shown(body));
+        self.check(body);
     }
 
     fn random_damage(&mut self) {
@@ -104,12 +135,14 @@ impl Bodies {
 
     /// As long as a body may be, and one byte longer.
     fn longest(&mut self) {
-        let mut body = spell::body(&m1()).bytes;
-        self.check(&body);
-        body.resize(LONGEST, 0);
-        self.check(&body);
-        body.push(0);
-        self.check(&body);
+        for mesh in m1_and_infinite() {
+            let mut body = spell::body(&mesh).bytes;
+            self.check(&body);
+            body.resize(LONGEST, 0);
+            self.check(&body);
+            body.push(0);
+            self.check(&body);
+        }
     }
 
     fn check(&mut self, body: &[u8]) {

@@ -3,6 +3,7 @@
 use spell::{overwrite, read_word, Mesh, Part, Spelled, MESH};
 
 use crate::inputs::random::Random;
+use crate::mesh::model::{MOST_COORDINATES, MOST_POINTS, MOST_VERTICES};
 use crate::mesh::payloads::List;
 
 /// Words to put over counts.
@@ -28,11 +29,13 @@ const SIZES: [u32; 7] = [0, 1, 7, 8, 9, 0x8000_0008, 0xFFFF_FFFF];
 /// What a list and a lone body share: every cut, other counts, and every bit turned over.
 pub fn every_byte(spelled: &Spelled, mut each: impl FnMut(&[u8])) {
     let bytes = &spelled.bytes;
-    for n in 0..bytes.len() {
-        each(&bytes[..n]);
-    }
+    every_cut(bytes, &mut each);
     every_count(spelled, &mut each);
     every_bit(bytes, each);
+}
+
+pub fn every_cut(bytes: &[u8], each: impl FnMut(&[u8])) {
+    (0..bytes.len()).map(|n| &bytes[..n]).for_each(each);
 }
 
 /// Each count with every other word over it.
@@ -45,6 +48,27 @@ pub fn every_count(spelled: &Spelled, mut each: impl FnMut(&[u8])) {
             each(&bytes);
         }
         overwrite(&mut bytes, place, count);
+    }
+}
+
+/// What a body's count must not be, by its number: 0, and one above its limit. Submeshes have no limit.
+pub fn bad_counts(number: usize) -> &'static [u32] {
+    match number {
+        0 => &[0, MOST_COORDINATES + 1],
+        1 => &[0, MOST_VERTICES + 1],
+        2 => &[0],
+        _ => &[0, MOST_POINTS + 1],
+    }
+}
+
+/// Each count of a body out of its range, handed out with its number.
+pub fn every_bad_count(body: &Spelled, mut each: impl FnMut(usize, &[u8])) {
+    for (number, &place) in body.counts.iter().enumerate() {
+        let mut bytes = body.bytes.clone();
+        for &count in bad_counts(number) {
+            overwrite(&mut bytes, place, count);
+            each(number, &bytes);
+        }
     }
 }
 

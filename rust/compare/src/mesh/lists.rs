@@ -10,8 +10,10 @@ use crate::lent::tables::{self, lengths, refused_lengths, Table};
 use crate::mesh::damage::{damaged, every_byte, every_size, every_stray_of, stray_of};
 use crate::mesh::drawing::Drawing;
 use crate::mesh::model;
-use crate::mesh::payloads::{large_counts, lone, longest_of, m1, mesh, sized, List};
+use crate::mesh::payloads::{large_counts, lone, longest_of, mesh, sized, List};
+use crate::mesh::words::{every_list, m1_and_infinite, spoil_list, NOT_FINITE};
 use crate::options::Options;
+use crate::scene::list_faults::{every_choice, faulty_list};
 use crate::tally::Tally;
 
 const NAME: &str = "meshes";
@@ -34,6 +36,7 @@ struct Lists {
     measured: Tally,
     records: Tally,
     beyond: Tally,
+    order: Tally,
 }
 
 pub fn run(options: &Options) -> Vec<Tally> {
@@ -41,6 +44,7 @@ pub fn run(options: &Options) -> Vec<Tally> {
     let times = if options.long { LONGER } else { 1 };
     for _ in 0..LISTS * times {
         lists.every_damage();
+        lists.faults();
     }
     for _ in 0..RANDOM * times {
         lists.random_damage();
@@ -53,9 +57,10 @@ pub fn run(options: &Options) -> Vec<Tally> {
         measured,
         records,
         beyond,
+        order,
         ..
     } = lists;
-    vec![model, parsed, measured, records, beyond]
+    vec![model, parsed, measured, records, beyond, order]
 }
 
 impl Lists {
@@ -75,18 +80,50 @@ impl Lists {
             records: tally("meshes records", "the same counts, records and refusals"),
             beyond: tally(
                 "meshes beyond the Rust",
-                "calls on more than 65536 submeshes or 67108864 bytes against the model",
+                "more than 65536 submeshes or 67108864 bytes, or a word that is not finite, against the model",
+            ),
+            order: tally(
+                "meshes order",
+                "the model's refusal against the first of the faults in payload order",
             ),
         }
     }
 
+    /// Of a list whose words are finite, and with one that is not.
     fn every_damage(&mut self) {
-        let list = List::random(&mut self.random);
+        let mut list = List::random(&mut self.random);
+        self.every_damage_of(&list);
+        spoil_list(&mut self.random, &mut list);
+        self.every_damage_of(&list);
+    }
+
+    fn every_damage_of(&mut self, list: &List) {
         let spelled = list.spelled();
         self.check(&spelled.bytes);
         every_byte(&spelled, |payload| self.check(payload));
-        every_size(&list, |payload| self.check(payload));
-        every_stray_of(&list, |payload| self.check(payload));
+        every_size(list, |payload| self.check(payload));
+        every_stray_of(list, |payload| self.check(payload));
+    }
+
+    /// Faults in one mesh or in several: that of the first one counts.
+    fn faults(&mut self) {
+        let mesh = mesh(&mut self.random);
+        let bad = self.random.pick(&NOT_FINITE);
+        every_list(&mesh, bad, |payload, first| {
+            self.check_order(payload, first)
+        });
+        for faults in every_choice() {
+            let payload = faulty_list(&mut self.random, faults);
+            self.check_order(&payload, faults.into_iter().find_map(|fault| fault));
+        }
+    }
+
+    /// The refusal is known without a look at the payload.
+    fn check_order(&mut self, payload: &[u8], refusal: Option<i64>) {
+        let model = model::parse_meshes(payload).reading.err();
+        let due = refusal.unwrap_or(0);
+        self.order.check(model.unwrap_or(0), due, || shown(payload));
+        self.check(payload);
     }
 
     fn random_damage(&mut self) {
@@ -124,12 +161,13 @@ impl Lists {
 
     /// As long as a payload may be, and one byte longer: with a long box, and with a long mesh.
     fn longest(&mut self) {
-        let mesh = m1();
-        self.check(&lone(&mesh));
-        for mut payload in longest_of(&mesh) {
-            self.check(&payload);
-            payload.push(0);
-            self.check(&payload);
+        for mesh in m1_and_infinite() {
+            self.check(&lone(&mesh));
+            for mut payload in longest_of(&mesh) {
+                self.check(&payload);
+                payload.push(0);
+                self.check(&payload);
+            }
         }
     }
 

@@ -8,6 +8,7 @@ pub mod model;
 pub mod payloads;
 pub mod spoils;
 pub mod textures;
+pub mod words;
 pub mod writer;
 pub mod writer_model;
 

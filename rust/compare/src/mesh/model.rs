@@ -1,9 +1,9 @@
-//! Document 01's reading of kind 2, bit by bit, with the number of the refusal.
+//! The reading of kind 2 in documents 01 and 02, bit by bit, with the number of the refusal.
 
 use spell::{field_width, FIELDS, MESH};
 
 use crate::inputs::payloads::LONGEST;
-use crate::refusals::{BAD_COUNT, BAD_SIZE, SHORT, STRAY, TOO_LONG};
+use crate::refusals::{BAD_COUNT, BAD_SIZE, BAD_WORD, SHORT, STRAY, TOO_LONG};
 
 pub const MOST_COORDINATES: u32 = 10_000;
 pub const MOST_VERTICES: u32 = 32_000;
@@ -33,9 +33,12 @@ pub struct Model<T> {
 }
 
 impl<T> Model<T> {
-    /// Whether the Rust is not asked to read these bytes: it knows no longest payload.
+    /// Whether the Rust is not asked to read these bytes: it knows no longest payload, and takes words that are not
+    /// finite.
     pub fn beyond_rust(&self, bytes: &[u8]) -> bool {
-        self.most_submeshes > MOST_SUBMESHES || bytes.len() > LONGEST
+        self.most_submeshes > MOST_SUBMESHES
+            || bytes.len() > LONGEST
+            || matches!(self.reading, Err(BAD_WORD))
     }
 }
 
@@ -63,6 +66,11 @@ pub fn parse_meshes(payload: &[u8]) -> Model<Vec<Mesh>> {
         reading,
         most_submeshes,
     }
+}
+
+/// Whether a pool's word is a number: neither an infinity nor a NaN.
+pub fn finite(word: u32) -> bool {
+    f32::from_bits(word).is_finite()
 }
 
 /// The five pool words of each point.
@@ -100,7 +108,7 @@ fn read_mesh(body: &[u8], most_submeshes: &mut u32) -> Result<Mesh, i64> {
     let n = bits.count(MOST_COORDINATES)?;
     let mut pool = Vec::new();
     for _ in 0..n {
-        pool.push(bits.field(32)?);
+        pool.push(bits.finite_word()?);
     }
     let m = bits.count(MOST_VERTICES)?;
     let mut coordinates = Vec::new();
@@ -160,6 +168,14 @@ impl Bits<'_> {
         }
         self.place = end;
         Ok(value)
+    }
+
+    fn finite_word(&mut self) -> Result<u32, i64> {
+        let word = self.field(32)?;
+        if !finite(word) {
+            return Err(BAD_WORD);
+        }
+        Ok(word)
     }
 
     fn count(&mut self, most: u32) -> Result<u32, i64> {

@@ -4,22 +4,8 @@ use spell::{Mesh, Part, Spelled, Submesh, FIELDS, MESH};
 
 use crate::inputs::payloads::LONGEST;
 use crate::inputs::random::Random;
-
-/// NaN, infinite, subnormal and zero pool words.
-const WORDS: [u32; 12] = [
-    0x7FC0_0000,
-    0xFFC0_0000,
-    0x7F80_0001,
-    0xFFBF_FFFF,
-    0xFFFF_FFFF,
-    0x7F80_0000,
-    0xFF80_0000,
-    0x0000_0001,
-    0x8000_0001,
-    0x007F_FFFF,
-    0x0000_0000,
-    0x8000_0000,
-];
+use crate::mesh::model::finite;
+use crate::mesh::words::FINITE;
 
 /// Types of boxes that are skipped.
 const OTHERS: [[u8; 4]; 7] = [
@@ -125,10 +111,17 @@ fn numbers(random: &mut Random, n: usize, limit: usize) -> Vec<i64> {
     (0..n).map(number).collect()
 }
 
+/// A finite word.
 fn word(random: &mut Random) -> u32 {
-    match random.below(2) {
-        0 => random.pick(&WORDS),
-        _ => random.word(),
+    if random.below(2) == 0 {
+        return random.pick(&FINITE);
+    }
+    let word = random.word();
+    if finite(word) {
+        word
+    } else {
+        // An exponent that is one less.
+        word ^ 0x0080_0000
     }
 }
 

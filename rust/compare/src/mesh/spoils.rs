@@ -1,8 +1,9 @@
-//! Tables that are no mesh: those of one, spoiled in each way that 13 names.
+//! Tables that are no mesh: those of one, spoiled in each way that 13 names; and in the way that 17 names.
 
 use spell::{Tables, FIELDS, ROW};
 
 use crate::inputs::random::Random;
+use crate::mesh::words::spoil_word;
 
 /// What is wrong afterwards, where nothing was before, and how it is done. It is done to any
 /// tables, so that two can be done one after the other.
@@ -145,6 +146,11 @@ pub const SPOILS: [Spoil; 45] = [
         change(&mut t.points, random, |number| *number = u16::MAX);
     }),
 ];
+
+/// What 17 names. Where another is done too, 13 comes first.
+pub const WORD: Spoil = ("a word that is not finite", |t, random| {
+    spoil_word(random, &mut t.pool)
+});
 
 /// Each number as large as what it indexes, each texture and mode 256, and each count 0 and 128001.
 pub fn every_place(tables: &Tables, mut each: impl FnMut(&Tables)) {

@@ -8,9 +8,10 @@ use crate::lent::answer::Answer;
 use crate::lent::fill::{before, check_exactly, lengths};
 use crate::mesh::damage::{damaged, stray_of};
 use crate::mesh::lists::{due as drawing_of, LONGER};
-use crate::mesh::payloads::{large_counts, lone, longest_of, m1, sized, List};
+use crate::mesh::payloads::{self, large_counts, lone, longest_of, m1, sized, List};
+use crate::mesh::words::{every_list, m1_and_infinite, NOT_FINITE};
 use crate::options::Options;
-use crate::scene::list_faults::{faulty_list, LIST_FAULTS};
+use crate::scene::list_faults::{every_choice, faulty_list};
 use crate::tally::Tally;
 
 const NAME: &str = "textures";
@@ -132,10 +133,11 @@ fn made(options: &Options, random: &mut Random) -> Tally {
         submesh.texture = texture;
     }
     check(&mut tally, &lone(&mesh));
-    // A byte more than a payload may have comes before a point that is not there.
+    // A byte more than a payload may have comes before a word that is not finite and a point that is not there.
     let mut stray = m1();
     stray.submeshes[0].points.push(3);
-    for mesh in [m1(), stray] {
+    let [whole, infinite] = m1_and_infinite();
+    for mesh in [whole, infinite, stray] {
         for mut payload in longest_of(&mesh) {
             check(&mut tally, &payload);
             payload.push(0);
@@ -145,18 +147,17 @@ fn made(options: &Options, random: &mut Random) -> Tally {
     tally
 }
 
-/// A fault in one mesh or in several of three: that of the first one counts.
+/// Faults in one mesh or in several: that of the first one counts.
 fn faults(options: &Options, random: &mut Random, times: usize) -> Tally {
-    let what = "lists of three meshes, every fault in each of them";
+    let what =
+        "lists of three meshes, every fault in each of them; words at the limits of what is finite";
     let mut tally = Tally::new(options, "textures faults", what);
     for _ in 0..FAULTY * times {
-        for first in LIST_FAULTS {
-            for second in LIST_FAULTS {
-                for third in LIST_FAULTS {
-                    check(&mut tally, &faulty_list(random, [first, second, third]));
-                }
-            }
+        for faults in every_choice() {
+            check(&mut tally, &faulty_list(random, faults));
         }
+        let (mesh, bad) = (payloads::mesh(random), random.pick(&NOT_FINITE));
+        every_list(&mesh, bad, |payload, _| check(&mut tally, payload));
     }
     tally
 }

@@ -1,5 +1,7 @@
 //! The writer of a mesh box.
 
+use std::mem::replace;
+
 use reference::mesh;
 use spell::{field_width, Mesh, Tables, FIELDS, ROW};
 
@@ -10,10 +12,11 @@ use crate::lent::tables::{self, lengths, refused_lengths, Table};
 use crate::mesh::lists::LONGER;
 use crate::mesh::model::{followed, HEADER, MOST_POINTS, MOST_SUBMESHES};
 use crate::mesh::payloads::{self, large_counts, lone, m1, sized};
-use crate::mesh::spoils::{every_place, Spoil, SPOILS};
+use crate::mesh::spoils::{every_place, Spoil, SPOILS, WORD};
+use crate::mesh::words::{every_word, FINITE, NOT_FINITE};
 use crate::mesh::writer_model::write_mesh;
 use crate::options::Options;
-use crate::refusals::NO_MESH;
+use crate::refusals::{BAD_WORD, NO_MESH};
 use crate::tally::Tally;
 
 const NAME: &str = "mesh_writer";
@@ -37,6 +40,7 @@ const LONGEST_VERTICES: [usize; 3] = [32_000, 16_380, 16_362];
 const ROW_BITS: usize = 8 + 8 + 32;
 const MOST_SHOWN: usize = 40;
 const SAME: &str = "the same";
+const TOO_LONG: &str = "a box that is too long";
 
 /// The box, or the number of the refusal.
 pub type Due = Result<Vec<u8>, i64>;
@@ -94,7 +98,7 @@ impl Writer {
             ),
             spoiled: tally(
                 "mesh_writer spoiled",
-                "tables with one or two faults that 13 names, the buffer as it was",
+                "tables with one or two faults that 13 or 17 names, the buffer as it was",
             ),
             rust: tally(
                 "mesh_writer read by the Rust",
@@ -149,16 +153,23 @@ impl Writer {
 
     fn every_spoil(&mut self) {
         let mesh = payloads::mesh(&mut self.random);
-        every_place(&Tables::from(&mesh), |tables| {
-            self.check_refused(tables, &[]);
+        every_word(&mesh, &FINITE, |mesh| self.check(&Tables::from(mesh)));
+        every_word(&mesh, &NOT_FINITE, |mesh| {
+            self.check_refused(BAD_WORD, &Tables::from(mesh), &[]);
         });
+        let mut tables = Tables::from(&mesh);
+        every_place(&tables, |tables| self.check_refused(NO_MESH, tables, &[]));
+        WORD.1(&mut tables, &mut self.random);
+        every_place(&tables, |tables| self.check_refused(NO_MESH, tables, &[]));
     }
 
-    /// Each spoil alone, and each two, which may cancel out.
+    /// Each spoil alone and with a word that is not finite, and each two, which may cancel out.
     fn spoils(&mut self) {
         for first in SPOILS {
             let tables = self.spoil(&[first]);
-            self.check_refused(&tables, &[first.0]);
+            self.check_refused(NO_MESH, &tables, &[first.0]);
+            let tables = self.spoil(&[first, WORD]);
+            self.check_refused(NO_MESH, &tables, &[first.0, WORD.0]);
             for second in SPOILS {
                 let tables = self.spoil(&[first, second]);
                 let due = write_mesh(&tables);
@@ -178,9 +189,9 @@ impl Writer {
         tables
     }
 
-    /// Checks that both the model and we refuse.
-    fn check_refused(&mut self, tables: &Tables, faults: &[&str]) {
-        let refused = Err(NO_MESH);
+    /// Checks that both the model and we refuse with this number.
+    fn check_refused(&mut self, refusal: i64, tables: &Tables, faults: &[&str]) {
+        let refused = Err(refusal);
         let agrees = write_mesh(tables) == refused;
         self.spoiled
             .check(agrees, true, || (faults.to_vec(), excerpt(tables)));
@@ -218,11 +229,15 @@ impl Writer {
             let due = write_mesh(&tables);
             write(&mut self.written, &mut self.random, &tables, &due, &[]);
             self.round_trip(&tables, by_rust);
+            let finite = replace(&mut tables.pool[0], NOT_FINITE[0]);
+            self.check_refused(BAD_WORD, &tables, &[WORD.0]);
             if let Some(count) = tables.submeshes.last_mut() {
                 *count += 1;
             }
             tables.points.push(0);
-            self.check_refused(&tables, &["a box that is too long"]);
+            self.check_refused(NO_MESH, &tables, &[TOO_LONG, WORD.0]);
+            tables.pool[0] = finite;
+            self.check_refused(NO_MESH, &tables, &[TOO_LONG]);
         }
     }
 }

@@ -1,11 +1,12 @@
-//! Document 01's writer of one mesh box: which tables are a mesh, and its box spelled bit by bit.
+//! The writer of one mesh box in documents 01 and 02: which tables are a mesh, of finite words, and its box spelled bit
+//! by bit.
 
 use spell::{Mesh, Submesh, Tables, FIELDS, ROW};
 
 use crate::inputs::payloads::LONGEST;
-use crate::mesh::model::{MOST_COORDINATES, MOST_POINTS, MOST_VERTICES};
+use crate::mesh::model::{finite, MOST_COORDINATES, MOST_POINTS, MOST_VERTICES};
 use crate::mesh::payloads::lone;
-use crate::refusals::NO_MESH;
+use crate::refusals::{BAD_WORD, NO_MESH};
 
 /// The box, or the number of the refusal.
 pub fn write_mesh(tables: &Tables) -> Result<Vec<u8>, i64> {
@@ -15,6 +16,9 @@ pub fn write_mesh(tables: &Tables) -> Result<Vec<u8>, i64> {
     let written = lone(&mesh(tables));
     if written.len() > LONGEST {
         return Err(NO_MESH);
+    }
+    if !tables.pool.iter().all(|&word| finite(word)) {
+        return Err(BAD_WORD);
     }
     Ok(written)
 }

@@ -12,7 +12,7 @@ use crate::options::Options;
 use crate::refusals;
 use crate::scene::calls::Calls;
 use crate::scene::crops::{UNUSABLE, USABLE};
-use crate::scene::list_faults::{faulty_list, LIST_FAULTS};
+use crate::scene::list_faults::{every_choice, faulty_list};
 use crate::scene::model::{due, Call, Due};
 use crate::scene::numbers::{
     any_given, small_given, FINITE_RADII, OTHER_KINDS, RADII, TOO_LARGE_GRIDS,
@@ -113,7 +113,7 @@ pub fn run(options: &Options, times: usize) -> Vec<Tally> {
             let draft = whole_cube(&mut faults.calls.random);
             faults.spoiled(draft, &CUBE_FAULTS, choice);
         }
-        faults.lists();
+        every_choice().for_each(|parts| faults.list(parts));
     }
     vec![faults.calls.tally, faults.order]
 }
@@ -145,17 +145,6 @@ impl Faults {
     fn spoiled(&mut self, mut draft: Draft, faults: &[Fault], choice: u32) {
         let first = spoil(&mut draft, &mut self.calls.random, faults, choice);
         self.check(draft, first);
-    }
-
-    /// Three meshes with no fault or any one in each of them.
-    fn lists(&mut self) {
-        for first in LIST_FAULTS {
-            for second in LIST_FAULTS {
-                for third in LIST_FAULTS {
-                    self.list([first, second, third]);
-                }
-            }
-        }
     }
 
     fn list(&mut self, parts: [Option<i64>; 3]) {

@@ -3,17 +3,29 @@
 use spell::{body, overwrite, Mesh, Part, Spelled, MESH};
 
 use crate::inputs::random::Random;
+use crate::mesh::damage::bad_counts;
 use crate::mesh::payloads::{mesh, List};
-use crate::refusals::{BAD_COUNT, BAD_SIZE, SHORT, STRAY};
+use crate::mesh::words::spoil_word;
+use crate::refusals::{BAD_COUNT, BAD_SIZE, BAD_WORD, SHORT, STRAY};
 
 /// No fault, or the refusal that one asks for.
-pub const LIST_FAULTS: [Option<i64>; 5] = [
+pub const LIST_FAULTS: [Option<i64>; 6] = [
     None,
     Some(SHORT),
     Some(BAD_SIZE),
     Some(BAD_COUNT),
     Some(STRAY),
+    Some(BAD_WORD),
 ];
+
+/// No fault or any one in each of three meshes.
+pub fn every_choice() -> impl Iterator<Item = [Option<i64>; 3]> {
+    LIST_FAULTS.into_iter().flat_map(|first| {
+        LIST_FAULTS
+            .into_iter()
+            .flat_map(move |second| LIST_FAULTS.map(|third| [first, second, third]))
+    })
+}
 
 pub fn faulty_list(random: &mut Random, faults: [Option<i64>; 3]) -> Vec<u8> {
     let parts = faults.map(|fault| faulty_part(random, fault));
@@ -51,6 +63,10 @@ fn faulty_part(random: &mut Random, fault: Option<i64>) -> Part {
             stray(random, &mut mesh);
             Part::Mesh(mesh)
         }
+        Some(BAD_WORD) => {
+            spoil_word(random, &mut mesh.pool);
+            Part::Mesh(mesh)
+        }
         _ => Part::Mesh(mesh),
     }
 }
@@ -61,13 +77,8 @@ fn miscounted(random: &mut Random, mesh: &Mesh) -> Vec<u8> {
         mut bytes, counts, ..
     } = body(mesh);
     let number = random.below(counts.len());
-    let above = match number {
-        0 => 10_001,
-        1 => 32_001,
-        2 => 0,
-        _ => 128_001,
-    };
-    overwrite(&mut bytes, counts[number], random.pick(&[0, above]));
+    let count = random.pick(bad_counts(number));
+    overwrite(&mut bytes, counts[number], count);
     bytes
 }
 

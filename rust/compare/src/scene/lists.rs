@@ -4,7 +4,8 @@ use spell::Spelled;
 
 use crate::inputs::random::Random;
 use crate::mesh::damage::{damaged, every_byte, every_size, every_stray_of, stray_of};
-use crate::mesh::payloads::{lone, m1, sized, List};
+use crate::mesh::payloads::{lone, m1, mesh, sized, List};
+use crate::mesh::words::{every_list, NOT_FINITE};
 use crate::options::Options;
 use crate::scene::calls::Calls;
 use crate::scene::model::Call;
@@ -19,7 +20,7 @@ const RANDOM: usize = 10_000;
 const COPIES: usize = 2;
 
 pub fn run(options: &Options, times: usize) -> Tally {
-    let what = "against mesh::parse_meshes; refusals and coordinate numbers against the model";
+    let what = "against mesh::parse_meshes; refusals, coordinate numbers and words not finite against the model";
     let mut calls = Calls::new(options, "scene kind 2", what);
     for payload in [Vec::new(), vec![0xFF; 7], lone(&m1())] {
         every(&mut calls, &payload);
@@ -60,6 +61,8 @@ fn every_damage(calls: &mut Calls) {
     every_byte(&spelled, |payload| some(calls, payload));
     every_size(&list, |payload| some(calls, payload));
     every_stray_of(&list, |payload| some(calls, payload));
+    let (mesh, bad) = (mesh(&mut calls.random), calls.random.pick(&NOT_FINITE));
+    every_list(&mesh, bad, |payload, _| some(calls, payload));
 }
 
 fn random_damage(calls: &mut Calls) {

@@ -30,7 +30,7 @@ impl TableLengths {
 
 /// Measures a mesh body: the lengths of its tables.
 ///
-/// Refused with 2, then 3, 7 and 8 in field order.
+/// Refused with 2, then 3, 7, 8 and 17 in field order.
 ///
 /// ```
 /// use hoodsorrel::payload::{measure_mesh, TableLengths};
@@ -43,6 +43,9 @@ impl TableLengths {
 ///     Ok(TableLengths { pool: 1, coordinates: 5, submeshes: 3, points: 2 })
 /// );
 /// assert_eq!(measure_mesh(&body[..23]), Err(Refusal::TooFewBytes));
+/// // The coordinate an infinity.
+/// let body = [&body[..4], &f32::INFINITY.to_bits().to_be_bytes(), &body[8..]].concat();
+/// assert_eq!(measure_mesh(&body), Err(Refusal::NotFinite));
 /// ```
 pub fn measure_mesh(body: &[u8]) -> Result<TableLengths, Refusal> {
     words(|words| raw::measure_mesh(body, words)).map(TableLengths::from_words)
@@ -51,7 +54,7 @@ pub fn measure_mesh(body: &[u8]) -> Result<TableLengths, Refusal> {
 /// Reads a mesh body into four lent tables, and answers their used lengths: the pool's words, five coordinate numbers
 /// for each vertex, texture, mode and point count of each submesh, and a vertex number for each point.
 ///
-/// Refused with 2, then 3, 7 and 8 in field order, then 12. Unless it is accepted the tables stay as they were.
+/// Refused with 2, then 3, 7, 8 and 17 in field order, then 12. Unless it is accepted the tables stay as they were.
 ///
 /// ```
 /// use hoodsorrel::payload::{parse_mesh, TableLengths};
@@ -87,7 +90,7 @@ pub fn parse_mesh(
 /// Writes the box of a mesh, given by the tables that [`parse_mesh`] fills, at the front of a buffer, and answers its
 /// size.
 ///
-/// Refused with 13, then 12.
+/// Refused with 13, then 17, then 12.
 ///
 /// ```
 /// use hoodsorrel::payload::write_mesh;
@@ -102,6 +105,9 @@ pub fn parse_mesh(
 /// );
 /// // The second point names a vertex that is not there.
 /// assert_eq!(write_mesh(&[0], &[0; 5], &[0, 0, 2], &[0, 1], &mut out), Err(Refusal::NotAMesh));
+/// // The coordinate is a NaN, which is told before the buffer is found too short.
+/// let pool = [f32::NAN.to_bits()];
+/// assert_eq!(write_mesh(&pool, &[0; 5], &[0, 0, 1], &[0], &mut []), Err(Refusal::NotFinite));
 /// ```
 pub fn write_mesh(
     pool: &[u32],

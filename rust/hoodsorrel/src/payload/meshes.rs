@@ -86,7 +86,7 @@ impl Record {
 
 /// Measures a mesh list.
 ///
-/// Refused with 2, then 3, 6, 7 and 8 in payload order.
+/// Refused with 2, then 3, 6, 7, 8 and 17 in payload order.
 ///
 /// ```
 /// use hoodsorrel::payload::{measure_meshes, Counts, MeshListSize};
@@ -113,7 +113,8 @@ pub fn measure_meshes(payload: &[u8]) -> Result<MeshListSize, Refusal> {
 /// Draws a mesh list into three lent buffers: the vertices' coordinate numbers, five floats for each point, and the
 /// records.
 ///
-/// Refused with 2, then 3, 6, 7 and 8 in payload order, then 12. Unless it is accepted the buffers stay as they were.
+/// Refused with 2, then 3, 6, 7, 8 and 17 in payload order, then 12. Unless it is accepted the buffers stay as they
+/// were. All floats are finite.
 ///
 /// ```
 /// use hoodsorrel::payload::{parse_meshes, Record};
@@ -150,7 +151,7 @@ pub fn parse_meshes(
 
 /// The records of a mesh list, without its points, and its counts.
 ///
-/// Refused with 2, then 3, 6, 7 and 8 in payload order, then 12.
+/// Refused with 2, then 3, 6, 7, 8 and 17 in payload order, then 12.
 ///
 /// ```
 /// use hoodsorrel::payload::{mesh_records, Counts};
@@ -195,7 +196,7 @@ impl TexturePoints {
 /// Puts each texture that occurs in a mesh list and the points of its submeshes together into a buffer, two words each,
 /// in order of first appearance, and answers how many textures there are: at most 256, so 512 words are always enough.
 ///
-/// Refused with 2, then 3, 6, 7 and 8 in payload order, then 12.
+/// Refused with 2, then 3, 6, 7, 8 and 17 in payload order, then 12.
 ///
 /// ```
 /// use hoodsorrel::payload::{texture_points, TexturePoints};

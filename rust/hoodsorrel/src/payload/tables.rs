@@ -53,7 +53,7 @@ pub struct Submesh {
 /// ```
 #[derive(Clone, Debug, Default, PartialEq, Eq, Hash)]
 pub struct MeshTables {
-    /// The pool: floats as their bits.
+    /// The pool: finite floats as their bits.
     pub pool: Vec<u32>,
     /// Five places in the pool for each vertex.
     pub coordinates: Vec<u16>,
@@ -66,7 +66,7 @@ pub struct MeshTables {
 impl MeshTables {
     /// Reads a mesh body: measures it, makes the tables and fills them.
     ///
-    /// Refused with 2, then 3, 7 and 8 in field order; and with 12 where memory does not hold the tables.
+    /// Refused with 2, then 3, 7, 8 and 17 in field order; and with 12 where memory does not hold the tables.
     pub fn of(body: &[u8]) -> Result<MeshTables, Refusal> {
         let lengths = measure_mesh(body)?;
         let mut tables =
@@ -92,7 +92,7 @@ impl MeshTables {
 
     /// Its box: measured, made and filled.
     ///
-    /// Refused with 13; and with 12 where memory does not hold the box.
+    /// Refused with 13, then 17; and with 12 where memory does not hold the box.
     pub fn write(&self) -> Result<Vec<u8>, Refusal> {
         let needed = match self.write_into(&mut []) {
             Err(Refusal::BufferTooShort(Needed::One(length))) => length,
@@ -106,7 +106,7 @@ impl MeshTables {
 
     /// Its box at the front of a buffer, and the box's size: [`write_mesh`].
     ///
-    /// Refused with 13, then 12.
+    /// Refused with 13, then 17, then 12.
     pub fn write_into(&self, out: &mut [u8]) -> Result<usize, Refusal> {
         write_mesh(
             &self.pool,

@@ -4,9 +4,10 @@ use mathlib.Core.Bool.{not, _&&_}
 use Prim.Native.Nat.{_-_, _≤_}
 use native.Mathlib.Omega.{arith}
 use borrow.Author.Needs.{needs}
+use lib.Dec.{ltb}
 use lib.ListN.{length, drop}
 use Rattle.payload.specs.MeshWrite.{allBelow}
-use Rattle.payload.proofs.JudgeLaws.{all-end, all-on}
+use Rattle.payload.proofs.JudgeLaws.{all-end, all-on, below-test}
 use Rattle.payload.proofs.mesh.judge.all_below.Statement.{statement}
 use Rattle.payload.proofs.mesh.judge.all_below.Tie as tie
 
@@ -35,13 +36,13 @@ loop-again : tie.Need-loop-again Inv-loop μ-loop
 loop-again c =
     let a = c .before .before .before .args in
     let l = c .before .before .loop in
-    (omega arith, l .inv .1 ∙ all-on (a .limit) (a .ns .now) (l .i) (l .above) (c .before .loop-test .taken))
+    (omega arith, l .inv .1 ∙ all-on (λ x. ltb x (a .limit)) (a .ns .now) (l .i) (l .above) _ (below-test _ (a .limit)) (c .before .loop-test .taken))
 
 returns : tie.Need-returns Inv-loop μ-loop
 returns c =
     let a = c .before .before .args in
     let l = c .before .loop in
-    sym (l .inv .1 ∙ all-end (a .limit) (a .ns .now) (l .i) (l .above) (omega arith))
+    sym (l .inv .1 ∙ all-end (λ x. ltb x (a .limit)) (a .ns .now) (l .i) (l .above) (omega arith))
 
 pub all-below-spec : {M : Type 1} → statement M
 all-below-spec =

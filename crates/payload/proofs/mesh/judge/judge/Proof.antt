@@ -1,10 +1,16 @@
 -- `judge` meets its contract: one test that fails decides, and so do all together. Assumes nothing.
-use mathlib.Core.Path.{sym, _∙_}
+use mathlib.Core.Path.{_≡_, sym, _∙_}
+use mathlib.Core.Bool.{true}
+use Prim.Native.Nat.{ℕ}
+use mathlib.Core.List.{List}
 use native.Mathlib.Omega.{arith}
 use lib.ListN.{length}
 use borrow.Author.Needs.{needs}
 use borrow.Author.Tests.{not-true, not-false}
-use Rattle.payload.proofs.JudgeLaws.{all-told, coordinates-no, counts-no, counts-told, judged-not, lengths-no, lengths-told, points-no, rows-no, size-no}
+use Rattle.payload.specs.MeshWrite.{boxSize, isMesh, tablesMesh}
+use Rattle.payload.specs.InternalWriting.{countsFit, rowsFit}
+use Rattle.payload.proofs.JudgeLaws.{all-told, box-told, coordinates-no, counts-no, counts-told, judged-not, judged-other}
+use Rattle.payload.proofs.JudgeLaws.{judged-size, lengths-no, lengths-told, points-no, rows-no, size-no}
 use Rattle.payload.proofs.mesh.judge.judge.Statement.{statement}
 use Rattle.payload.proofs.mesh.judge.judge.Tie as tie
 
@@ -66,11 +72,49 @@ returns-6 c =
     let a = c .before .before .before .before .before .before .before .before .before .before .before .before .before .before .before .before .args in
     judged-not (a .pool .now) (a .coordinates .now) (a .rows .now) (a .points .now) (points-no (a .pool .now) (a .coordinates .now) (a .rows .now) (a .points .now) (sym (c .before .all-below2 .ensures) ∙ not-true _ (c .if6 .taken)))
 
+-- what all the tests tell
+module _ (m : tie.Else6) where
+  abbrev pool : List ℕ
+  pool = m .before .before .before .before .before .before .before .before .before .before .before .before .before .before .before .before .args .pool .now
+
+  abbrev coordinates : List ℕ
+  coordinates = m .before .before .before .before .before .before .before .before .before .before .before .before .before .before .before .before .args .coordinates .now
+
+  abbrev table : List ℕ
+  table = m .before .before .before .before .before .before .before .before .before .before .before .before .before .before .before .before .args .rows .now
+
+  abbrev points : List ℕ
+  points = m .before .before .before .before .before .before .before .before .before .before .before .before .before .before .before .before .args .points .now
+
+  rows : rowsFit table (length points) ≡ true
+  rows = sym (m .before .before .before .before .before .before .before .before .before .rows-fit .ensures) ∙ not-false _ (m .before .before .before .before .before .before .before .before .if2 .left)
+
+  counts : countsFit (length pool) (length coordinates) (length table) ≡ true
+  counts = sym (m .before .before .before .before .before .before .before .before .before .before .before .counts-fit .ensures) ∙ not-false _ (m .before .before .before .before .before .before .before .before .before .before .if1 .left)
+
+  size : m .before .before .before .before .before .box-size .result ≡ boxSize (tablesMesh pool coordinates table points)
+  size = box-told pool coordinates table points _ rows (m .before .before .before .before .before .box-size .ensures)
+
+  passed : isMesh pool coordinates table points ≡ true
+  passed =
+      all-told pool coordinates table points _ rows (m .before .before .before .before .before .box-size .ensures) counts
+      (m .before .before .before .before .if4 .left) (sym (m .before .before .before .all-below .ensures) ∙ not-false _ (m .before .before .if5 .left))
+      (sym (m .before .all-below2 .ensures) ∙ not-false _ (m .if6 .left))
+
+all-finite-requires : tie.Need-all-finite-requires
+all-finite-requires c κs = search needs
+
 returns-7 : tie.Need-returns-7
 returns-7 c =
-    let a = c .before .before .before .before .before .before .before .before .before .before .before .before .before .before .before .before .args in
-    all-told (a .pool .now) (a .coordinates .now) (a .rows .now) (a .points .now) _ (sym (c .before .before .before .before .before .before .before .before .before .before .before .counts-fit .ensures) ∙ not-false _ (c .before .before .before .before .before .before .before .before .before .before .if1 .left)) (sym (c .before .before .before .before .before .before .before .before .before .rows-fit .ensures) ∙ not-false _ (c .before .before .before .before .before .before .before .before .if2 .left)) (c .before .before .before .before .before .box-size .ensures) (c .before .before .before .before .if4 .left)
-    (sym (c .before .before .before .all-below .ensures) ∙ not-false _ (c .before .before .if5 .left)) (sym (c .before .all-below2 .ensures) ∙ not-false _ (c .if6 .left))
+    let m = c .before .before in
+    judged-other (pool m) (coordinates m) (table m) (points m) (passed m)
+    (sym (c .before .all-finite .ensures) ∙ not-true _ (c .if7 .taken))
+
+returns-8 : tie.Need-returns-8
+returns-8 c =
+    let m = c .before .before in
+    judged-size (pool m) (coordinates m) (table m) (points m) _ (passed m)
+    (sym (c .before .all-finite .ensures) ∙ not-false _ (c .if7 .left)) (size m)
 
 pub judge-spec : {M : Type 1} → statement M
 judge-spec =
@@ -90,4 +134,6 @@ judge-spec =
     cast-all-below-2
     all-below-requires-2
     returns-6
-    returns-7)
+    all-finite-requires
+    returns-7
+    returns-8)

@@ -20,6 +20,9 @@ judge-requires c κs = search needs
 enum-told : tie.Need-enum-told
 enum-told c = search needs
 
+enum-told-2 : tie.Need-enum-told-2
+enum-told-2 c = search needs
+
 enum-known-n : tie.Need-enum-known-n
 enum-known-n c = search needs
 
@@ -42,11 +45,16 @@ returns-2 c =
     let a = c .before .before .before .before .before .before .before .before .args in
     told-declined 1 (meshWritten (a .pool .now) (a .coordinates .now) (a .submeshes .now) (a .points .now)) (a .out .now) 13 (mapped-declined length (meshWritten (a .pool .now) (a .coordinates .now) (a .submeshes .now) (a .points .now)) 13 (sym (ap judgedSays (c .enum-told .given .1)) ∙ c .before .before .judge .ensures))
 
+returns-3 : tie.Need-returns-3
+returns-3 c =
+    let a = c .before .before .before .before .before .before .before .before .args in
+    told-declined 1 (meshWritten (a .pool .now) (a .coordinates .now) (a .submeshes .now) (a .points .now)) (a .out .now) 17 (mapped-declined length (meshWritten (a .pool .now) (a .coordinates .now) (a .submeshes .now) (a .points .now)) 17 (sym (ap judgedSays (c .enum-told2 .given .1)) ∙ c .before .before .judge .ensures))
+
 same-length : tie.Need-same-length
 same-length c = search needs
 
-returns-3 : tie.Need-returns-3
-returns-3 c =
+returns-4 : tie.Need-returns-4
+returns-4 c =
     let a = c .before .before .before .before .before .before .before .before .before .before .before .before .before .before .args in
     let v = mapped-value length (meshWritten (a .pool .now) (a .coordinates .now) (a .submeshes .now) (a .points .now)) _ (sym (ap judgedSays (c .before .before .before .before .before .before .n .given .1)) ∙ c .before .before .before .before .before .before .before .before .judge .ensures) in
     let w = written-value (a .pool .now) (a .coordinates .now) (a .submeshes .now) (a .points .now) (v .0) (v .1) in
@@ -58,9 +66,11 @@ write-mesh-spec =
     (tie.spec
     judge-requires
     enum-told
+    enum-told-2
     enum-known-n
     returns
     put-box-requires
     returns-2
+    returns-3
     same-length
-    returns-3)
+    returns-4)
