@@ -9,7 +9,7 @@ from math import cos, pi, sin
 from pathlib import Path
 
 HERE = Path(__file__).parent
-HEADING = "mesh texture mode first points\n"
+HEADING = "eye texture mode first points\n"
 
 
 class Bits:
@@ -72,8 +72,9 @@ def mesh(pool, vertices, submeshes, free=0):
 def listing(meshes):
     text, first, count, textures = HEADING, 0, 0, {}
     for number, submeshes in enumerate(meshes):
+        eye = number + 1 if len(meshes) == 2 else 0
         for texture, mode, points in submeshes:
-            text += f"{number} {texture} {mode} {first} {len(points)}\n"
+            text += f"{eye} {texture} {mode} {first} {len(points)}\n"
             first += len(points)
             count += 1
             textures[texture] = textures.get(texture, 0) + len(points)
@@ -173,6 +174,8 @@ save("refused_7", m1[:8] + (0).to_bytes(4, "big") + m1[12:], "refused 7\n")
 save("refused_8", m1[:38] + b"\x0f" + m1[39:], "refused 8\n")
 save("refused_17", mesh([0, INFINITY], *SMALL[1:]), "refused 17\n")
 save("refused_17_undrawn", mesh([0, ONE, NAN], *SMALL[1:]), "refused 17\n")
+save("refused_18", m1 * 3, "refused 18\n")
+save("refused_18_unread", m1 + box(b"free", m1) + m1 + box(b"mesh", b""), "refused 18\n")
 
 eyes = [dome(0, (0.49, 0.51), 0.0), dome(1, (0.52, 0.49), 0.06)]
 save("dome", b"".join(mesh(*eye) for eye in eyes), listing([eye[2] for eye in eyes]))

@@ -8,7 +8,7 @@ use Rattle.bits.specs.Verdict.{accepted, limited}
 use Rattle.bits.proofs.VerdictLaws.{limited-yes}
 use Rattle.payload.specs.Mesh.{Submesh, Mesh}
 use Rattle.payload.specs.MeshRead.{readMeshes}
-use Rattle.payload.specs.MeshDrawing.{drawnFloats, submeshRecords, recordsFrom, drawnRecords, pointCount, pointTotal}
+use Rattle.payload.specs.MeshDrawing.{drawnFloats, submeshRecords, recordsFrom, firstEye, drawnRecords, pointCount, pointTotal}
 use Rattle.payload.proofs.PayloadLaws.{limited-value}
 use Rattle.payload.proofs.MeasureLaws.{list-fits, floats-length, records-length}
 use Rattle.payload.proofs.RecordLaws.{drawn-sum}
@@ -60,7 +60,7 @@ module _ (s : List ℕ) (l : List Mesh) (e : limited s (readMeshes s) ≡ accept
   few = let t = limited-value s (readMeshes s) l e in omega (arith, t .0, list-fits s l (t .1) .1)
 
   all-drawn : All (Drawn (pointTotal l)) (recordsIn (drawnRecords l))
-  all-drawn = meshes-drawn 0 0 (pointTotal l) l k (omega arith)
+  all-drawn = meshes-drawn (firstEye (length l)) 0 (pointTotal l) l k (omega arith)
 
   usable : UsableRecords (drawnRecords l)
   usable =
@@ -68,7 +68,7 @@ module _ (s : List ℕ) (l : List Mesh) (e : limited s (readMeshes s) ≡ accept
         whole = omega (arith, records-length l);
         modes = λ r m. all-drawn r m .0;
         points = λ r m. omega (arith, all-drawn r m .1, few);
-        together = omega (arith, drawn-sum 0 0 l, few);
+        together = omega (arith, drawn-sum (firstEye (length l)) 0 l, few);
       }
 
   pub triangulated : Triangulated (drawnRecords l) (drawnFloats l)

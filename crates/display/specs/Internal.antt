@@ -11,7 +11,7 @@ use Rattle.display.specs.declared.triangulation.Measured.the-variants as
 abbrev pub recordAt : List ℕ → ℕ → Record
 recordAt words i =
     record {
-      mesh = getD words i 0;
+      eye = getD words i 0;
       texture = getD words (i + 1) 0;
       mode = getD words (i + 2) 0;
       first = getD words (i + 3) 0;

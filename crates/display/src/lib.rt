@@ -16,7 +16,7 @@ fn record_at(records: &[u32], at: usize) -> Record
     ensures { λ r. ⌜ r ≡ recordAt (now (records .entry)) at ⌝ }
 {
     Record {
-        mesh: records[at],
+        eye: records[at],
         texture: records[at + 1],
         mode: records[at + 2],
         first: records[at + 3],

@@ -19,7 +19,7 @@ use Rattle.meshlist.proofs.ListingLaws.{too-long, listed-is}
 pub listing-refusals : ListingRefusals
 listing-refusals s = go (le-or-lt (length s) 16384)
   where
-    go : (length s ≤ 16384) ⊎ (16384 < length s) → Refuses (2 ∷ 3 ∷ 6 ∷ 7 ∷ 8 ∷ 17 ∷ []) (listing s)
+    go : (length s ≤ 16384) ⊎ (16384 < length s) → Refuses (2 ∷ 3 ∷ 6 ∷ 7 ∷ 8 ∷ 17 ∷ 18 ∷ []) (listing s)
     go (inl h) =
         rw (sym (sym (limited-yes s (readMeshes s) (omega arith)) ∙ listed-is s h))
         (remade listSize lineCounts (readMeshes s)

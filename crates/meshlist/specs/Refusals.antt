@@ -8,7 +8,7 @@ use Rattle.bits.specs.Refusals.{Refuses}
 use Rattle.meshlist.specs.Listing.{listing}
 
 abbrev pub ListingRefusals : Type 0
-ListingRefusals = (s : List ℕ) → Refuses (2 ∷ 3 ∷ 6 ∷ 7 ∷ 8 ∷ 17 ∷ []) (listing s)
+ListingRefusals = (s : List ℕ) → Refuses (2 ∷ 3 ∷ 6 ∷ 7 ∷ 8 ∷ 17 ∷ 18 ∷ []) (listing s)
 
 abbrev pub NeverSixteen : Type 0
 NeverSixteen = (s : List ℕ) → listing s ≡ declined 16 → ⊥

@@ -11,12 +11,12 @@ fn print_word(n: u32, after: u8) -> bool {
 }
 
 pub fn print_heading() -> bool {
-    io::write_all(STDOUT_FILENO, b"mesh texture mode first points\n")
+    io::write_all(STDOUT_FILENO, b"eye texture mode first points\n")
 }
 
 // A record on a line of its own.
-pub fn print_record(mesh: u32, texture: u32, mode: u32, first: u32, points: u32) -> bool {
-    print_word(mesh, b' ')
+pub fn print_record(eye: u32, texture: u32, mode: u32, first: u32, points: u32) -> bool {
+    print_word(eye, b' ')
         && print_word(texture, b' ')
         && print_word(mode, b' ')
         && print_word(first, b' ')

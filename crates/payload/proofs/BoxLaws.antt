@@ -176,8 +176,12 @@ module _ (x : Mesh) where
     box-spells k =
         let f = first-box (meshBox x) (boxSize x) box-size in
         let l = box-length in
-        holds {p = 0} {x = x} {l = []} (record { header = omega arith; least = omega arith; most = omega arith }) box-type
-        (rw box-part (body-spells x h k)) (ends {p = endAt (meshBox x) 0} (omega arith) (omega arith))
+        record {
+          boxes =
+              holds {p = 0} {x = x} {l = []} (record { header = omega arith; least = omega arith; most = omega arith }) box-type
+              (rw box-part (body-spells x h k)) (ends {p = endAt (meshBox x) 0} (omega arith, omega arith));
+          most = omega arith;
+        }
 
 -- ---- a plain box
 
@@ -214,7 +218,7 @@ held h (skips b n r) = absurd (nothing-left h r)
 
 module _ (s : List ℕ) (x : Mesh) (e : MeshesSpell (x ∷ []) s) (b : PlainBox x s) where
   in-box : Held s 0 x
-  in-box = held (omega (arith, first-box s (length s) (b .lone) .1)) e
+  in-box = held (omega (arith, first-box s (length s) (b .lone) .1)) (e .boxes)
 
   pub plain-body : MeshSpells (drop 8 s) x
   plain-body =

@@ -9,7 +9,7 @@ use Rattle.bits.specs.Verdict.{accepted}
 use Rattle.bits.specs.Header.{listEnd, headerAt}
 use Rattle.payload.specs.Mesh.{Submesh, Mesh}
 use Rattle.payload.specs.MeshSpells.{meshType}
-use Rattle.payload.specs.MeshRead.{readFrom}
+use Rattle.payload.specs.Internal.{anyFrom}
 use Rattle.payload.specs.MeshDrawing.{runWords, submeshWords, coordinate, meshWords, pointCount, drawnNumbers, drawnFloats}
 use Rattle.payload.specs.Internal.{WasRead, valueOr, numbersOf, pointsOf, submeshesOf, Taken, wordAt, Pooled, meshRead, boxRead, meshesFrom, FillRoom, afterMeshes}
 use Rattle.payload.specs.declared.mesh.head.Head.{Head}
@@ -103,7 +103,7 @@ floats-append (x ∷ a) b = ap (λ (l : List ℕ). meshWords x ++ l) (floats-app
 pub record MeshesLeft (s num₀ wrd₀ num wrd : List ℕ) (at : ℕ) (to : DrawPlace) : Type 0 where
   pub numbers : sets num₀ 0 (drawnNumbers (meshesFrom s 0)) ≡ sets num (to .numbers) (drawnNumbers (meshesFrom s at))
   pub floats : sets wrd₀ 0 (drawnFloats (meshesFrom s 0)) ≡ sets wrd (to .floats) (drawnFloats (meshesFrom s at))
-  pub read : WasRead (readFrom s at)
+  pub read : WasRead (anyFrom s at)
   pub room : FillRoom (meshesFrom s at) to (length num) (length wrd)
   pub long : length num ≡ length num₀
   pub long-2 : length wrd ≡ length wrd₀

@@ -50,19 +50,19 @@ module _ (word : ℕ → ℕ) (h : (k : ℕ) → IsFinite (word k)) where
 
 boxes-finite : {s : List ℕ} {p : ℕ} {l : List Mesh} → BoxesSpell s p l → AllFinite (drawnFloats l)
 unfolding drawnFloats
-boxes-finite (ends i h) = nil-all IsFinite
+boxes-finite (ends (i, h)) = nil-all IsFinite
 boxes-finite (holds {x = x} b t m r) =
     append-all IsFinite (submeshWords (coordinate x) 0 (x .submeshes))
     (submeshes-finite (coordinate x) (λ k. taken (x .pool) (m .pool-finite) _) 0 (x .submeshes)) (boxes-finite r)
 boxes-finite (skips b t r) = boxes-finite r
 
 drawn-finite : (s : List ℕ) (l : List Mesh) → readMeshes s ≡ accepted l → AllFinite (drawnFloats l)
-drawn-finite s l e = boxes-finite (meshes-reads .reads l s .0 e)
+drawn-finite s l e = boxes-finite (meshes-reads .reads l s .0 e .boxes)
 
 -- ---- a reading has finite words alone
 
 pools-finite : {s : List ℕ} {p : ℕ} {l : List Mesh} → BoxesSpell s p l → All (λ x. AllFinite (x .pool)) l
-pools-finite (ends i h) = nil-all (λ x. AllFinite (x .pool))
+pools-finite (ends (i, h)) = nil-all (λ x. AllFinite (x .pool))
 pools-finite (holds b t m r) = cons-all (λ x. AllFinite (x .pool)) (m .pool-finite) (pools-finite r)
 pools-finite (skips b t r) = pools-finite r
 
@@ -96,7 +96,7 @@ pub finite-laws : FiniteLaws
 finite-laws =
     record {
       by-bits = finite-bits;
-      read = λ l s e. pools-finite e;
+      read = λ l s e. pools-finite (e .boxes);
       cut = λ s i g h. decides s i g 3 (word-cut s (wordPlace i) h);
       refused = λ s i g h f. decides s i g 17 (word-other s (wordPlace i) h f);
       no-mesh = λ pool coordinates rows points out e.

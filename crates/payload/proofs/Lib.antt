@@ -27,6 +27,7 @@ pub mod BodyLaws
 pub mod MeshReadLaws
 pub mod BoxReadLaws
 pub mod MeshTheorems
+pub mod EyeProofs
 pub mod MeshProofs
 pub mod CheckLaws
 pub mod MeasureLaws

@@ -1,28 +1,29 @@
 -- What measuring a list answers, box by box; that the totals of a list fit its bytes; and the lengths of a drawing's three lists. Assumes nothing.
-use Prim.Native.Nat.{ℕ, _+_, _-_, _*_, _≤_}
-use mathlib.Core.Path.{_≡_, refl, ap, _∙_}
+use Prim.Native.Nat.{ℕ, suc, _+_, _-_, _*_, _≤_, _<_}
+use mathlib.Core.Path.{_≡_, refl, sym, ap, _∙_}
+use mathlib.Core.Logic.{_⊎_, inl, inr}
 use mathlib.Core.List.{List, [], _∷_}
 use native.Mathlib.Omega.{arith}
 use native.Mathlib.Nat.{mul-le-mul-left}
 use native.Mathlib.Decide.{ℕ-discrete}
 use lib.ListN.{length, length-take, length-append}
-use borrow.Author.Tests.{eq-eqb, ne-eqb}
+use borrow.Author.Tests.{eq-eqb, ne-eqb, le-leb, lt-leb}
 use Rattle.bits.specs.Verdict.{Verdict, accepted, needs, declined, andThen, mapped}
 use Rattle.bits.specs.Number.{widthOf}
 use Rattle.bits.specs.Header.{box, headerAt}
-use Rattle.bits.proofs.VerdictLaws.{clash, then-yes, then-no, mapped-value, mapped-declined}
+use Rattle.bits.proofs.VerdictLaws.{clash, le-or-lt, then-yes, then-no, mapped-value, mapped-declined}
 use Rattle.payload.specs.Mesh.{Submesh, Mesh}
 use Rattle.payload.specs.MeshSpells.{submeshBits, SubmeshesSpell, meshVertices, submeshesAt, MeshSpells, meshType}
 use Rattle.payload.specs.MeshSpells.{part, headerBytes, bodyAt, endAt, sizes, BoxesSpell, ends, holds, skips}
-use Rattle.payload.specs.MeshRead.{readMesh, readFrom, readMeshes}
-use Rattle.payload.specs.MeshDrawing.{drawnNumbers, runWords, submeshWords, meshWords, coordinate, drawnFloats, submeshRecords, recordsFrom, drawnRecords, pointCount, submeshTotal, pointTotal}
+use Rattle.payload.specs.MeshRead.{readMesh, readMeshBox, readFrom, readMeshes}
+use Rattle.payload.specs.MeshDrawing.{drawnNumbers, runWords, submeshWords, meshWords, coordinate, drawnFloats, submeshRecords, recordsFrom, firstEye, drawnRecords, pointCount, submeshTotal, pointTotal}
 use Rattle.payload.specs.Internal.{bodySize, noTotals, withMesh, totalsOf, withBody, Room, boxTotals}
 use Rattle.payload.specs.Meshes.{listSize}
 use Rattle.payload.specs.declared.mesh.measure.Totals.{Totals}
 use Rattle.payload.specs.declared.mesh.measure.MeshListSize.{MeshListSize}
 use Rattle.payload.proofs.RangeLaws.{width-some}
 use Rattle.payload.proofs.MeshReadLaws.{mesh-spells}
-use Rattle.payload.proofs.BoxReadLaws.{body-after, header-value, at-mesh, at-other}
+use Rattle.payload.proofs.BoxReadLaws.{body-after, header-value, meshThen, more-mesh, more-other}
 use Rattle.payload.proofs.MeshTheorems.{meshes-reads}
 use Rattle.payload.proofs.CheckLaws.{run-fits}
 
@@ -87,48 +88,80 @@ module _ (s : List ℕ) (type body end : ℕ) (t : Totals) where
   pub box-skipped : (type ≡ meshType → ⊥) → boxTotals s type body end t ≡ accepted t
   box-skipped n = simp (ne-eqb type meshType n)
 
-  pub box-counted : type ≡ meshType → boxTotals s type body end t ≡ mapped (withBody t) (readMesh (part s body end))
-  box-counted y = simp (eq-eqb type meshType y)
+  pub box-third : type ≡ meshType → 2 ≤ t .meshes → boxTotals s type body end t ≡ declined 18
+  box-third y h = simp (eq-eqb type meshType y, le-leb 2 (t .meshes) h)
+
+  pub box-counted : type ≡ meshType → t .meshes < 2
+      → boxTotals s type body end t ≡ mapped (withBody t) (readMesh (part s body end))
+  box-counted y h = simp (eq-eqb type meshType y, lt-leb 2 (t .meshes) h)
 
 -- ---- the boxes that are left
 
-module _ (s : List ℕ) (p type body end : ℕ) (t : Totals) (h : headerAt s p ≡ accepted (box type body end)) where
-  pub measure-declined : (k : ℕ) → declined k ≡ boxTotals s type body end t → mapped (totalsOf t) (readFrom s p) ≡ declined k
-  measure-declined k a = go (ℕ-discrete type meshType)
-    where
-      go : Dec (type ≡ meshType) → mapped (totalsOf t) (readFrom s p) ≡ declined k
-      go (yes y) =
-          let d = mapped-declined (withBody t) (readMesh (part s body end)) k (a ∙ box-counted s type body end t y) in
-          ap (mapped (totalsOf t)) (at-mesh s p type body end h y ∙ then-no (readMesh (part s body end)) (λ x. andThen (readFrom s end) (λ l. accepted (x .0 ∷ l))) k d)
-      go (no n) = let f = box-skipped s type body end t n in clash (cc)
+-- how many meshes more may come
+abbrev pub moreAfter : Totals → ℕ
+moreAfter t = 2 - t .meshes
 
-  pub measure-on : (u : Totals) → accepted u ≡ boxTotals s type body end t → mapped (totalsOf t) (readFrom s p) ≡ mapped (totalsOf u) (readFrom s end)
-  measure-on u a = go (ℕ-discrete type meshType)
+module _ (s : List ℕ) (p type body end : ℕ) (t : Totals) (h : headerAt s p ≡ accepted (box type body end)) where
+  -- a mesh box: the third is refused
+  mesh-refused : type ≡ meshType → 2 ≤ t .meshes → readFrom s (moreAfter t) p ≡ declined 18
+  mesh-refused y two =
+      let z : moreAfter t ≡ 0 = omega arith in
+      more-mesh s (moreAfter t) p type body end h y
+      ∙ ap (λ (r : ℕ). readMeshBox s (readFrom s) r body end) z
+
+  mesh-counted : type ≡ meshType → t .meshes < 2
+      → readFrom s (moreAfter t) p ≡ andThen (readMesh (part s body end)) (meshThen (readFrom s (2 - (t .meshes + 1)) end))
+  mesh-counted y few =
+      let z : moreAfter t ≡ suc (2 - (t .meshes + 1)) = omega arith in
+      more-mesh s (moreAfter t) p type body end h y
+      ∙ ap (λ (r : ℕ). readMeshBox s (readFrom s) r body end) z
+
+  pub measure-declined : (k : ℕ) → declined k ≡ boxTotals s type body end t
+      → mapped (totalsOf t) (readFrom s (moreAfter t) p) ≡ declined k
+  measure-declined k a = go (ℕ-discrete type meshType) (le-or-lt 2 (t .meshes))
+    where
+      go : Dec (type ≡ meshType) → (2 ≤ t .meshes) ⊎ (t .meshes < 2)
+          → mapped (totalsOf t) (readFrom s (moreAfter t) p) ≡ declined k
+      go (yes y) (inl two) =
+          let e : k ≡ 18 = let f = box-third s type body end t y two in cc in
+          ap (mapped (totalsOf t)) (mesh-refused y two) ∙ ap declined (sym e)
+      go (yes y) (inr few) =
+          let d = mapped-declined (withBody t) (readMesh (part s body end)) k (a ∙ box-counted s type body end t y few) in
+          ap (mapped (totalsOf t)) (mesh-counted y few ∙ then-no (readMesh (part s body end)) (meshThen (readFrom s (2 - (t .meshes + 1)) end)) k d)
+      go (no n) o = let f = box-skipped s type body end t n in clash (cc)
+
+  pub measure-on : (u : Totals) → accepted u ≡ boxTotals s type body end t
+      → mapped (totalsOf t) (readFrom s (moreAfter t) p) ≡ mapped (totalsOf u) (readFrom s (moreAfter u) end)
+  measure-on u a = go (ℕ-discrete type meshType) (le-or-lt 2 (t .meshes))
     where
       more : (x : Mesh) (v : Verdict (List Mesh)) → mapped (totalsOf t) (andThen v (λ l. accepted (x ∷ l))) ≡ mapped (totalsOf (withMesh t x)) v
       more x (accepted l) = refl
       more x (needs l) = refl
       more x (declined k) = refl
 
-      go : Dec (type ≡ meshType) → mapped (totalsOf t) (readFrom s p) ≡ mapped (totalsOf u) (readFrom s end)
-      go (yes y) =
-          let v = mapped-value (withBody t) (readMesh (part s body end)) u (a ∙ box-counted s type body end t y) in
-          ap (mapped (totalsOf t)) (at-mesh s p type body end h y ∙ then-yes (readMesh (part s body end)) (λ x. andThen (readFrom s end) (λ l. accepted (x .0 ∷ l))) (v .0) (v .1))
-          ∙ more (v .0 .0) (readFrom s end) ∙ rw (v .2)
-      go (no n) =
+      go : Dec (type ≡ meshType) → (2 ≤ t .meshes) ⊎ (t .meshes < 2)
+          → mapped (totalsOf t) (readFrom s (moreAfter t) p) ≡ mapped (totalsOf u) (readFrom s (moreAfter u) end)
+      go (yes y) (inl two) = let f = box-third s type body end t y two in clash (cc)
+      go (yes y) (inr few) =
+          let v = mapped-value (withBody t) (readMesh (part s body end)) u (a ∙ box-counted s type body end t y few) in
+          ap (mapped (totalsOf t)) (mesh-counted y few ∙ then-yes (readMesh (part s body end)) (meshThen (readFrom s (2 - (t .meshes + 1)) end)) (v .0) (v .1))
+          ∙ more (v .0 .0) (readFrom s (2 - (t .meshes + 1)) end)
+          ∙ ap (λ (w : Totals). mapped (totalsOf w) (readFrom s (moreAfter w) end)) (v .2)
+      go (no n) o =
           let f = box-skipped s type body end t n in
           let i : t ≡ u = cc in
-          ap (mapped (totalsOf t)) (at-other s p type body end h n) ∙ rw i
+          ap (mapped (totalsOf t)) (more-other s (moreAfter t) p type body end h n) ∙ rw i
 
   pub measure-room : (u : Totals) → accepted u ≡ boxTotals s type body end t → Room t p → Room u end
-  measure-room u a r = go (ℕ-discrete type meshType)
+  measure-room u a r = go (ℕ-discrete type meshType) (le-or-lt 2 (t .meshes))
     where
-      go : Dec (type ≡ meshType) → Room u end
-      go (yes y) =
+      go : Dec (type ≡ meshType) → (2 ≤ t .meshes) ⊎ (t .meshes < 2) → Room u end
+      go (yes y) (inl two) = let f = box-third s type body end t y two in clash (cc)
+      go (yes y) (inr few) =
           let b = header-value s p type body end h in
-          let v = mapped-value (withBody t) (readMesh (part s body end)) u (a ∙ box-counted s type body end t y) in
+          let v = mapped-value (withBody t) (readMesh (part s body end)) u (a ∙ box-counted s type body end t y few) in
           rw (← v .2) (room-mesh s t (v .0 .0) p body end (omega (arith, body-after s p, b .2)) (omega (arith, b .0 .least, b .2, b .3)) (mesh-spells (part s body end) (v .0 .0) (v .0 .1) (v .1)) r)
-      go (no n) =
+      go (no n) o =
           let b = header-value s p type body end h in
           let f = box-skipped s type body end t n in
           let i : t ≡ u = cc in
@@ -137,7 +170,7 @@ module _ (s : List ℕ) (p type body end : ℕ) (t : Totals) (h : headerAt s p �
 -- ---- the totals of a list that was read
 
 pub totals-room : {s : List ℕ} {p : ℕ} {l : List Mesh} (t : Totals) → BoxesSpell s p l → Room t p → Room (totalsOf t l) (length s)
-totals-room {s} {p} t (ends i e) r = room-on t p (length s) i r
+totals-room {s} {p} t (ends (i, e)) r = room-on t p (length s) i r
 totals-room {s} {p} t (holds {x = x} {l = l} b y m e) r =
     totals-room (withMesh t x) e (room-mesh s t x p (bodyAt s p) (endAt s p) (body-after s p) (b .least) m r)
 totals-room {s} {p} t (skips b n e) r = totals-room t e (room-on t p (endAt s p) (omega (arith, body-after s p, b .least)) r)
@@ -170,35 +203,35 @@ unfolding drawnFloats
 floats-length [] = refl
 floats-length (x ∷ l) = length-append (meshWords x) (drawnFloats l) ∙ omega (arith, submesh-floats (coordinate x) 0 (x .submeshes), floats-length l)
 
-pub submesh-records : (number first : ℕ) (l : List Submesh) → length (submeshRecords number first l) ≡ 5 * length l
+pub submesh-records : (eye first : ℕ) (l : List Submesh) → length (submeshRecords eye first l) ≡ 5 * length l
 unfolding submeshRecords
-submesh-records number first [] = refl
-submesh-records number first (x ∷ l) = omega (arith, submesh-records number (first + length (x .points)) l)
+submesh-records eye first [] = refl
+submesh-records eye first (x ∷ l) = omega (arith, submesh-records eye (first + length (x .points)) l)
 
-pub records-on : (number first : ℕ) (l : List Mesh) → length (recordsFrom number first l) ≡ 5 * submeshTotal l
+pub records-on : (eye first : ℕ) (l : List Mesh) → length (recordsFrom eye first l) ≡ 5 * submeshTotal l
 unfolding recordsFrom
-records-on number first [] = refl
-records-on number first (x ∷ l) =
-    length-append (submeshRecords number first (x .submeshes)) (recordsFrom (number + 1) (first + pointCount (x .submeshes)) l)
-    ∙ omega (arith, submesh-records number first (x .submeshes), records-on (number + 1) (first + pointCount (x .submeshes)) l)
+records-on eye first [] = refl
+records-on eye first (x ∷ l) =
+    length-append (submeshRecords eye first (x .submeshes)) (recordsFrom (eye + 1) (first + pointCount (x .submeshes)) l)
+    ∙ omega (arith, submesh-records eye first (x .submeshes), records-on (eye + 1) (first + pointCount (x .submeshes)) l)
 
 pub records-length : (l : List Mesh) → length (drawnRecords l) ≡ 5 * submeshTotal l
-records-length l = records-on 0 0 l
+records-length l = records-on (firstEye (length l)) 0 l
 
 -- of a list that was spelled: each mesh has five numbers for each vertex
 pub numbers-spelled : {s : List ℕ} {p : ℕ} {l : List Mesh} → BoxesSpell s p l → length (drawnNumbers l) ≡ coordinateTotal l
 unfolding drawnNumbers
-numbers-spelled (ends i e) = refl
+numbers-spelled (ends (i, e)) = refl
 numbers-spelled (holds {x = x} {l = l} b y m e) = length-append (x .vertices) (drawnNumbers l) ∙ omega (arith, m .fives, numbers-spelled e)
 numbers-spelled (skips b n e) = numbers-spelled e
 
 pub numbers-length : (s : List ℕ) (l : List Mesh) → readMeshes s ≡ accepted l → length (drawnNumbers l) ≡ coordinateTotal l
-numbers-length s l e = numbers-spelled (meshes-reads .reads l s .0 e)
+numbers-length s l e = numbers-spelled (meshes-reads .reads l s .0 e .boxes)
 
 -- ---- a list's size, from its totals
 
 read-room : (s : List ℕ) (l : List Mesh) → readMeshes s ≡ accepted l → Room (totalsOf noTotals l) (length s)
-read-room s l e = totals-room noTotals (meshes-reads .reads l s .0 e) (record { few = omega arith; bits = omega arith })
+read-room s l e = totals-room noTotals (meshes-reads .reads l s .0 e .boxes) (record { few = omega arith; bits = omega arith })
 
 -- what a list that was read counts takes a bit or more of its bytes, and a submesh 48
 pub list-fits : (s : List ℕ) (l : List Mesh) → readMeshes s ≡ accepted l → (length l ≤ length s) × (coordinateTotal l + 48 * submeshTotal l + pointTotal l ≤ 8 * length s)

@@ -14,7 +14,7 @@ use Rattle.bits.proofs.HeaderLaws.{header-end}
 use Rattle.payload.specs.Mesh.{Mesh}
 use Rattle.payload.specs.MeshSpells.{meshType, part}
 use Rattle.payload.specs.MeshRead.{readMesh, readItem, readFrom}
-use Rattle.payload.specs.Internal.{WasRead, valueOr, meshRead, meshesFrom}
+use Rattle.payload.specs.Internal.{WasRead, valueOr, anyFrom, meshRead, meshesFrom}
 use Rattle.payload.specs.InternalPlaces.{Spot, nowhere, spot, nextItem, nextIn, nextBody}
 use Rattle.payload.proofs.StepLaws.{not-read}
 use Rattle.payload.proofs.BoxReadLaws.{header-value, from-header, at-declined}
@@ -81,7 +81,7 @@ pub record MeshNext (s : List ℕ) (p body end : ℕ) : Type 0 where
   pub ends : end ≤ length s
   pub read : WasRead (readMesh (part s body end))
   pub is : meshesFrom s p ≡ meshRead (part s body end) ∷ meshesFrom s end
-  pub rest : WasRead (readFrom s end)
+  pub rest : WasRead (anyFrom s end)
 
 -- the same by cases
 abbrev pub NextIs : List ℕ → ℕ → Spot → Type 0
@@ -100,7 +100,7 @@ earlier s p q h e (spot body end) i =
       rest = i .rest;
     }
 
-held : (s : List ℕ) (p type body end : ℕ) → WasRead (readFrom s p) → headerAt s p ≡ accepted (box type body end)
+held : (s : List ℕ) (p type body end : ℕ) → WasRead (anyFrom s p) → headerAt s p ≡ accepted (box type body end)
     → type ≡ meshType → MeshNext s p body end
 held s p type body end r e y =
     let T = box-turn s p type body end r e in
@@ -114,16 +114,16 @@ held s p type body end r e y =
       rest = T .rest;
     }
 
-next-in : (s : List ℕ) (turns p : ℕ) → length s < p + 8 * turns → WasRead (readFrom s p) → NextIs s p (nextBody s p)
+next-in : (s : List ℕ) (turns p : ℕ) → length s < p + 8 * turns → WasRead (anyFrom s p) → NextIs s p (nextBody s p)
 next-in s zero p h r = let e = header-end s p (omega arith) in rw (next-end s p e) (list-end s p e)
 next-in s (suc turns) p h r = go (headerAt s p) refl (λ end o k. next-in s turns end o k)
   where
     go : (v : Verdict Item) → headerAt s p ≡ v
-        → ((end : ℕ) → length s < end + 8 * turns → WasRead (readFrom s end) → NextIs s end (nextBody s end))
+        → ((end : ℕ) → length s < end + 8 * turns → WasRead (anyFrom s end) → NextIs s end (nextBody s end))
         → NextIs s p (nextBody s p)
     go (accepted listEnd) e rec = rw (next-end s p e) (list-end s p e)
-    go (needs l) e rec = absurd (rw (from-header s p ∙ ap (λ v. andThen v (readItem s (readFrom s))) e) at r)
-    go (declined k) e rec = absurd (not-read (readFrom s p) k (at-declined s p k e) r)
+    go (needs l) e rec = absurd (rw (from-header s (length s) p ∙ ap (λ v. andThen v (readItem s (readFrom s) (length s))) e) at r)
+    go (declined k) e rec = absurd (not-read (anyFrom s p) k (at-declined s p k e) r)
     go (accepted (box type body end)) e rec = by (ℕ-discrete type meshType)
       where
         by : Dec (type ≡ meshType) → NextIs s p (nextBody s p)
@@ -136,5 +136,5 @@ next-in s (suc turns) p h r = go (headerAt s p) refl (λ end o k. next-in s turn
             (earlier s p end (omega (arith, T .starts, T .whole)) same (nextBody s end)
             (rec end (omega (arith, T .starts, T .whole)) (T .rest)))
 
-pub next-read : (s : List ℕ) (p : ℕ) → WasRead (readFrom s p) → NextIs s p (nextBody s p)
+pub next-read : (s : List ℕ) (p : ℕ) → WasRead (anyFrom s p) → NextIs s p (nextBody s p)
 next-read s p r = next-in s (suc (length s)) p (omega arith) r

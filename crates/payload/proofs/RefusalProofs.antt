@@ -25,7 +25,7 @@ use Rattle.payload.specs.Count.{counted, indexCount}
 use Rattle.payload.specs.Mesh.{Mesh}
 use Rattle.payload.specs.MeshSpells.{aligned, part, meshType}
 use Rattle.payload.specs.MeshRead.{inRange, ifFinite, many, readSubmesh, readSubmeshes, readWord, afterVertices}
-use Rattle.payload.specs.MeshRead.{afterPoolCount, readMesh, readItem, readBoxes, readFrom, readMeshes}
+use Rattle.payload.specs.MeshRead.{afterPoolCount, readMesh, readItem, readMeshBox, readBoxes, readFrom, readMeshes}
 use Rattle.payload.specs.Meshes.{listSize, drawnMeshes, recordedMeshes}
 use Rattle.payload.specs.Tables.{tableLengths, bodyRead, tablesOf}
 use Rattle.payload.specs.Float.{finiteWord}
@@ -131,24 +131,25 @@ module _ {ks : List ℕ} where
       body-refuses : among 2 ks ≡ true → (s : List ℕ) → Refuses ks (bodyRead s)
       body-refuses two s = limited-refuses s two (mapped-refuses (λ x. x .0) (mesh-refuses s))
 
-      module _ (six : among 6 ks ≡ true) where
-        item-refuses : (s : List ℕ) (rest : ℕ → Verdict (List Mesh)) → ((p : ℕ) → Refuses ks (rest p)) → (i : Item)
-            → Refuses ks (readItem s rest i)
-        item-refuses s rest h listEnd = gives []
-        item-refuses s rest h (box type body end) =
-            cond-refuses (eqb type meshType)
-            (then-refuses (mesh-refuses (part s body end)) (λ x. then-refuses (h end) (λ l. gives (x .0 ∷ l))))
-            (h end)
+      module _ (six : among 6 ks ≡ true) (eighteen : among 18 ks ≡ true) where
+        item-refuses : (s : List ℕ) (rest : ℕ → ℕ → Verdict (List Mesh)) → ((r p : ℕ) → Refuses ks (rest r p)) → (room : ℕ)
+            (i : Item) → Refuses ks (readItem s rest room i)
+        item-refuses s rest h room listEnd = gives []
+        item-refuses s rest h room (box type body end) = cond-refuses (eqb type meshType) (mesh room) (h room end)
+          where
+            mesh : (r : ℕ) → Refuses ks (readMeshBox s rest r body end)
+            mesh zero = refuses 18 eighteen
+            mesh (suc r) = then-refuses (mesh-refuses (part s body end)) (λ x. then-refuses (h r end) (λ l. gives (x .0 ∷ l)))
 
-        boxes-refuses : (s : List ℕ) (turns p : ℕ) → Refuses ks (readBoxes s turns p)
+        boxes-refuses : (s : List ℕ) (turns room p : ℕ) → Refuses ks (readBoxes s turns room p)
         unfolding readBoxes
-        boxes-refuses s zero p = gives []
-        boxes-refuses s (suc turns) p =
-            then-refuses (header-refuses six s p) (item-refuses s (readBoxes s turns) (boxes-refuses s turns))
+        boxes-refuses s zero room p = gives []
+        boxes-refuses s (suc turns) room p =
+            then-refuses (header-refuses six s p) (item-refuses s (readBoxes s turns) (boxes-refuses s turns) room)
 
         meshes-refuses : (s : List ℕ) → Refuses ks (readMeshes s)
         unfolding readFrom
-        meshes-refuses s = boxes-refuses s (length s) 0
+        meshes-refuses s = boxes-refuses s (length s) 2 0
 
 -- ---- the sphere, the cube and the counts
 
@@ -189,18 +190,18 @@ refusals =
       parse-equi = λ s. limited-refuses s refl (mapped-refuses withCrop (equi-refuses refl refl refl s));
       parse-cbmp = λ s. limited-refuses s refl (cbmp-refuses refl refl refl s);
       measure-mesh = λ s. mapped-refuses tableLengths (body-refuses refl refl refl refl refl s);
-      measure-meshes = λ s. limited-refuses s refl (mapped-refuses listSize (meshes-refuses refl refl refl refl refl s));
+      measure-meshes = λ s. limited-refuses s refl (mapped-refuses listSize (meshes-refuses refl refl refl refl refl refl s));
       parse-mesh = λ s buffers.
           answer-refuses buffers (mapped-refuses tablesOf (body-refuses refl refl refl refl refl s));
       parse-meshes = λ s buffers.
           answer-refuses buffers
-          (mapped-refuses drawnMeshes (limited-refuses s refl (meshes-refuses refl refl refl refl refl s)));
+          (mapped-refuses drawnMeshes (limited-refuses s refl (meshes-refuses refl refl refl refl refl refl s)));
       mesh-records = λ s buffers.
           answer-refuses buffers
-          (mapped-refuses recordedMeshes (limited-refuses s refl (meshes-refuses refl refl refl refl refl s)));
+          (mapped-refuses recordedMeshes (limited-refuses s refl (meshes-refuses refl refl refl refl refl refl s)));
       texture-points = λ s buffers.
           items-refuses 2 buffers
-          (mapped-refuses _ (limited-refuses s refl (meshes-refuses refl refl refl refl refl s)));
+          (mapped-refuses _ (limited-refuses s refl (meshes-refuses refl refl refl refl refl refl s)));
       sphere-indices-bounded = λ rings sectors b buffers. items-refuses 1 buffers (numbers-refuses rings sectors b);
       sphere-indices = λ rings sectors buffers. items-refuses 1 buffers (full-refuses rings sectors);
       sphere-uvs = λ rings sectors buffers. items-refuses 2 buffers (uvs-refuses refl rings sectors);
@@ -264,4 +265,4 @@ lends-none (gives a) l e = clash (cc)
 lends-none (refuses k h) l e = clash (cc)
 
 pub never-needs : (s l : List ℕ) → readMeshes s ≡ needs l → ⊥
-never-needs s = lends-none (meshes-refuses {ks = 3 ∷ 6 ∷ 7 ∷ 8 ∷ 17 ∷ []} refl refl refl refl refl s)
+never-needs s = lends-none (meshes-refuses {ks = 3 ∷ 6 ∷ 7 ∷ 8 ∷ 17 ∷ 18 ∷ []} refl refl refl refl refl refl s)

@@ -12,7 +12,7 @@ use Rattle.bits.specs.Refusals.{among}
 use Rattle.bits.proofs.VerdictLaws.{clash}
 use Rattle.payload.specs.Mesh.{Submesh, Mesh}
 use Rattle.payload.specs.MeshSpells.{sizes}
-use Rattle.payload.specs.MeshDrawing.{submeshRecords, recordsFrom, pointCount, pointTotal}
+use Rattle.payload.specs.MeshDrawing.{submeshRecords, recordsFrom, firstEye, pointCount, pointTotal}
 use Rattle.payload.specs.Records.{recordsIn, pointSum}
 use Rattle.payload.specs.Firsts.{firsts, Distinct, Below}
 use Rattle.payload.specs.Textures.{textures, pointsWith, paired, textureWords, listTextures}
@@ -184,35 +184,35 @@ taken-weights {s} {r = r} T =
     ap weights (T .is) ∙ ap (λ (n : ℕ). weight (r .texture) n ∷ weights (submeshesOf s (r .rest))) (sym (T .count))
 
 -- the words of records, read as records again, have the same textures and points
-textures-same : (number first : ℕ) (l : List Submesh) (words : List ℕ)
-    → textures (recordsIn (submeshRecords number first l ++ words)) ≡ textures (weights l) ++ textures (recordsIn words)
+textures-same : (eye first : ℕ) (l : List Submesh) (words : List ℕ)
+    → textures (recordsIn (submeshRecords eye first l ++ words)) ≡ textures (weights l) ++ textures (recordsIn words)
 unfolding submeshRecords recordsIn
-textures-same number first [] words = refl
-textures-same number first (x ∷ l) words =
-    ap (λ (m : List ℕ). x .texture ∷ m) (textures-same number (first + length (x .points)) l words)
+textures-same eye first [] words = refl
+textures-same eye first (x ∷ l) words =
+    ap (λ (m : List ℕ). x .texture ∷ m) (textures-same eye (first + length (x .points)) l words)
 
-points-same : (t number first : ℕ) (l : List Submesh) (words : List ℕ)
-    → pointsWith t (recordsIn (submeshRecords number first l ++ words))
+points-same : (t eye first : ℕ) (l : List Submesh) (words : List ℕ)
+    → pointsWith t (recordsIn (submeshRecords eye first l ++ words))
     ≡ pointsWith t (weights l) + pointsWith t (recordsIn words)
 unfolding submeshRecords recordsIn pointsWith
-points-same t number first [] words = omega arith
-points-same t number first (x ∷ l) words = omega (arith, points-same t number (first + length (x .points)) l words)
+points-same t eye first [] words = omega arith
+points-same t eye first (x ∷ l) words = omega (arith, points-same t eye (first + length (x .points)) l words)
 
-list-textures-same : (number first : ℕ) (l : List Mesh)
-    → textures (recordsIn (recordsFrom number first l)) ≡ textures (listWeights l)
+list-textures-same : (eye first : ℕ) (l : List Mesh)
+    → textures (recordsIn (recordsFrom eye first l)) ≡ textures (listWeights l)
 unfolding recordsFrom recordsIn listWeights
-list-textures-same number first [] = refl
-list-textures-same number first (x ∷ l) =
-    textures-same number first (x .submeshes) _
+list-textures-same eye first [] = refl
+list-textures-same eye first (x ∷ l) =
+    textures-same eye first (x .submeshes) _
     ∙ ap (λ (m : List ℕ). textures (weights (x .submeshes)) ++ m) (list-textures-same _ _ l)
     ∙ sym (textures-append (weights (x .submeshes)) (listWeights l))
 
-list-points-same : (t number first : ℕ) (l : List Mesh)
-    → pointsWith t (recordsIn (recordsFrom number first l)) ≡ pointsWith t (listWeights l)
+list-points-same : (t eye first : ℕ) (l : List Mesh)
+    → pointsWith t (recordsIn (recordsFrom eye first l)) ≡ pointsWith t (listWeights l)
 unfolding recordsFrom recordsIn listWeights pointsWith
-list-points-same t number first [] = refl
-list-points-same t number first (x ∷ l) =
-    points-same t number first (x .submeshes) _
+list-points-same t eye first [] = refl
+list-points-same t eye first (x ∷ l) =
+    points-same t eye first (x .submeshes) _
     ∙ ap (λ (m : ℕ). pointsWith t (weights (x .submeshes)) + m) (list-points-same t _ _ l)
     ∙ sym (points-append t (weights (x .submeshes)) (listWeights l))
 
@@ -224,5 +224,5 @@ paired-same f g (t ∷ l) h = rw (h t, paired-same f g l h)
 pub words-same : (l : List Mesh) → textureWords (listWeights l) ≡ listTextures l
 unfolding textureWords
 words-same l =
-    ap (λ (m : List ℕ). paired (λ t. pointsWith t (listWeights l)) (firsts m)) (sym (list-textures-same 0 0 l))
-    ∙ paired-same _ _ _ (λ t. sym (list-points-same t 0 0 l))
+    ap (λ (m : List ℕ). paired (λ t. pointsWith t (listWeights l)) (firsts m)) (sym (list-textures-same (firstEye (length l)) 0 l))
+    ∙ paired-same _ _ _ (λ t. sym (list-points-same t (firstEye (length l)) 0 l))

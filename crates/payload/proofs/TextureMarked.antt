@@ -8,12 +8,12 @@ use Rattle.bits.specs.Header.{sizedAt, headerAt}
 use Rattle.bits.specs.Run.{complete, readRun}
 use Rattle.payload.specs.MeshRead.{inRange, ifFinite, many, readSubmesh, readSubmeshes, afterVertices, afterPoolCount, readMesh, readBoxes, readFrom}
 use Rattle.payload.specs.Internal.{readWords, afterCounts}
-use Rattle.payload.specs.MeshDrawing.{runWords, submeshRecords, recordsFrom}
+use Rattle.payload.specs.MeshDrawing.{runWords, submeshRecords, recordsFrom, firstEye}
 use Rattle.payload.specs.Records.{recordsIn}
 use Rattle.payload.specs.Firsts.{note, noted}
 use Rattle.payload.specs.Textures.{pointsWith, paired, textureWords, texturesFound}
 use Rattle.payload.specs.TextureMarked.{TextureMarked}
 
 pub texture-marked : TextureMarked
-unfolding limited readFrom readBoxes readMesh afterPoolCount afterCounts afterVertices readWords readSubmeshes readSubmesh many inRange ifFinite ofBits ofFields odd complete readRun headerAt sizedAt within widthOf leastFrom ranOn field bitAt runWords submeshRecords recordsFrom recordsIn note noted pointsWith paired textureWords texturesFound
-texture-marked = record { several = refl; no-list = refl; one-box = refl; two-boxes = refl; refused = refl; infinite = refl }
+unfolding limited readFrom readBoxes readMesh afterPoolCount afterCounts afterVertices readWords readSubmeshes readSubmesh many inRange ifFinite ofBits ofFields odd complete readRun headerAt sizedAt within widthOf leastFrom ranOn field bitAt runWords submeshRecords recordsFrom firstEye recordsIn note noted pointsWith paired textureWords texturesFound
+texture-marked = record { several = refl; no-list = refl; one-box = refl; two-boxes = refl; refused = refl; infinite = refl; third = refl }

@@ -3,13 +3,14 @@ use Prim.Native.Nat.{ℕ, _<_}
 use mathlib.Core.Path.{_≡_, refl, sym, ap, _∙_}
 use mathlib.Core.List.{List, [], _∷_, map}
 use native.Mathlib.Omega.{arith}
+use lib.ListN.{length}
 use Rattle.bits.specs.Refusals.{among}
 use Rattle.bits.specs.Verdict.{accepted, limited}
 use Rattle.bits.proofs.FieldLaws.{field-lt}
 use Rattle.payload.specs.Mesh.{Submesh, Mesh}
 use Rattle.payload.specs.MeshSpells.{SubmeshesSpell, BoxesSpell, ends, holds, skips}
 use Rattle.payload.specs.MeshRead.{readMeshes}
-use Rattle.payload.specs.MeshDrawing.{pointTotal}
+use Rattle.payload.specs.MeshDrawing.{firstEye, pointTotal}
 use Rattle.payload.specs.Records.{pointSum}
 use Rattle.payload.specs.Firsts.{firsts, Below}
 use Rattle.payload.specs.Textures.{textures, pointsWith, textureWords, listRecords}
@@ -48,7 +49,7 @@ proper-submeshes s w m p (x ∷ l) e =
 
 proper-boxes : {s : List ℕ} {p : ℕ} {l : List Mesh} → BoxesSpell s p l → Proper (listWeights l)
 unfolding listWeights
-proper-boxes (ends i h) = tt
+proper-boxes (ends (i, h)) = tt
 proper-boxes (holds {x = x} {l = l} b t m r) =
     proper-append (weights (x .submeshes)) (listWeights l) (proper-submeshes _ _ _ _ (x .submeshes) (m .submeshes-run))
     (proper-boxes r)
@@ -63,10 +64,10 @@ module _ (s : List ℕ) (l : List Mesh) (e : limited s (readMeshes s) ≡ accept
   read = limited-value s (readMeshes s) l e .1
 
   proper : Proper (listWeights l)
-  proper = proper-boxes (meshes-reads .reads l s .0 read)
+  proper = proper-boxes (meshes-reads .reads l s .0 read .boxes)
 
   all-points : pointSum (listRecords l) ≡ pointTotal l
-  all-points = drawn-sum 0 0 l
+  all-points = drawn-sum (firstEye (length l)) 0 l
 
   few : pointTotal l < 4294967296
   few = omega (arith, limited-value s (readMeshes s) l e .0, list-fits s l read .1)

@@ -20,6 +20,7 @@ use Rattle.payload.specs.Mesh.{Mesh}
 use Rattle.payload.specs.MeshRead.{readMeshes}
 use Rattle.payload.specs.MeshDrawing.{drawnNumbers, drawnFloats, drawnRecords, submeshTotal, pointTotal}
 use Rattle.payload.specs.Meshes.{listSize}
+use Rattle.payload.specs.EyeLaws.{EyeLaws}
 use Rattle.payload.specs.TextureLaws.{RecordTextures, TexturesRead}
 use Rattle.payload.specs.Laws.{EquiReads, EquiWrites, CbmpReads, CbmpWrites}
 use Rattle.payload.specs.Laws.{MeshesReads, MeshReads, MeshWrites, TablesRead}
@@ -50,6 +51,7 @@ use Rattle.payload.proofs.MeshTheorems as meshes
 use Rattle.payload.proofs.MeshWriteProofs as writing
 use Rattle.payload.proofs.WrittenProofs as written
 use Rattle.payload.proofs.MeasureLaws as measure
+use Rattle.payload.proofs.EyeProofs as eye
 use Rattle.payload.proofs.TextureProofs as texture
 use Rattle.payload.proofs.TextureMarked as texture-cases
 use Rattle.payload.proofs.RefusalProofs as refusal
@@ -106,6 +108,11 @@ pub map-calls : {P O P′ O′ : Claim}
     → ((A : Type 0) (ks : List ℕ) (v : Verdict A) → among 16 ks ≡ false → O A ks v → O′ A ks v)
     → EachCall P O → EachCall P′ O′
 map-calls = refusal.map-calls
+
+-- ---- whose a submesh is, of specs/EyeLaws.antt
+
+pub eye-laws : EyeLaws
+eye-laws = eye.eye-laws
 
 -- ---- the points of each texture, of specs/TextureLaws.antt
 

@@ -16,7 +16,8 @@ use Rattle.bits.specs.Verdict.{limited}
 use Rattle.payload.specs.Mesh.{Submesh, Mesh}
 use Rattle.bits.specs.Run.{zeros, Found, readRun}
 use Rattle.payload.specs.MeshSpells.{headerBytes, meshType, part}
-use Rattle.payload.specs.MeshRead.{many, readSubmesh, readMesh, readFrom, readMeshes}
+use Rattle.payload.specs.MeshRead.{many, readSubmesh, readMesh, readMeshes}
+use Rattle.payload.specs.Internal.{anyFrom}
 use Rattle.payload.specs.MeshDrawing.{pointCount, drawnNumbers, drawnFloats, drawnRecords}
 use Rattle.payload.specs.Meshes.{listSize}
 use Rattle.payload.specs.Internal.{WasRead, valueOr, runNumbers, submeshesRead, SubmeshesThere, submeshesOf, takenSubmesh, Taken, meshRead, boxMeshes, boxRead, meshesFrom}
@@ -28,6 +29,7 @@ use Rattle.payload.proofs.PayloadLaws.{limited-value, limited-mapped}
 use Rattle.bits.proofs.RunLaws.{spells-run}
 use Rattle.bits.proofs.FieldLaws.{field-lt}
 use Rattle.payload.proofs.StepLaws.{read-value}
+use Rattle.payload.proofs.MeshTheorems.{any-read}
 use Rattle.payload.proofs.RangeLaws.{many-on}
 use Rattle.payload.proofs.SubmeshLaws.{submesh-spells}
 use Rattle.payload.proofs.BoxReadLaws.{body-after, header-value, at-end, at-mesh, at-other}
@@ -186,10 +188,10 @@ pub record BoxTurn (s : List ℕ) (p type body end : ℕ) : Type 0 where
   pub whole : body ≤ end
   pub ends : end ≤ length s
   pub read : WasRead (boxMeshes s type body end)
-  pub rest : WasRead (readFrom s end)
+  pub rest : WasRead (anyFrom s end)
   pub is : meshesFrom s p ≡ boxRead s type body end ++ meshesFrom s end
 
-pub box-turn : (s : List ℕ) (p type body end : ℕ) → WasRead (readFrom s p) → headerAt s p ≡ accepted (box type body end) → BoxTurn s p type body end
+pub box-turn : (s : List ℕ) (p type body end : ℕ) → WasRead (anyFrom s p) → headerAt s p ≡ accepted (box type body end) → BoxTurn s p type body end
 box-turn s p type body end r h = let b = header-value s p type body end h in go (omega (arith, body-after s p, b .2)) (omega (arith, b .0 .least, b .2, b .3)) (omega (arith, b .0 .most, b .3)) (ℕ-discrete type meshType)
   where
     both : (v : Found Mesh) (q : Verdict (List Mesh)) → WasRead (andThen v (λ x. andThen q (λ l. accepted (x .0 ∷ l))))
@@ -204,7 +206,7 @@ box-turn s p type body end r h = let b = header-value s p type body end h in go 
     go a b c (yes y) =
         let e = at-mesh s p type body end h y in
         let i : boxMeshes s type body end ≡ mapped (λ x. x .0 ∷ []) (readMesh (part s body end)) = simp (eq-eqb type meshType y) in
-        let g = both (readMesh (part s body end)) (readFrom s end) (rw e at r) in
+        let g = both (readMesh (part s body end)) (anyFrom s end) (rw e at r) in
         record { starts = a; whole = b; ends = c; read = rw i (g .0); rest = g .1; is = ap (valueOr []) e ∙ g .2 ∙ ap (λ (v : Verdict (List Mesh)). valueOr [] v ++ meshesFrom s end) (sym i) }
     go a b c (no n) =
         let e = at-other s p type body end h n in
@@ -226,13 +228,17 @@ pub listed : (s : List ℕ) (n : MeshListSize) → accepted n ≡ limited s (map
 listed s n e =
     let v = mapped-value listSize (limited s (readMeshes s)) n (e ∙ limited-mapped s listSize (readMeshes s)) in
     let l = limited-value s (readMeshes s) (v .0) (v .1) in
-    let i : meshesFrom s 0 ≡ v .0 = ap (valueOr []) (l .1) in
+    let i : meshesFrom s 0 ≡ v .0 = ap (valueOr []) (any-read s (v .0) (l .1)) in
     record { short = l .0; read = rw (l .1) tt; is = v .1 ∙ ap accepted (sym i); size = sym (v .2) ∙ ap listSize (sym i) }
 
 pub not-listed : (s : List ℕ) (k : ℕ) → declined k ≡ limited s (mapped listSize (readMeshes s)) → limited s (readMeshes s) ≡ declined k
 not-listed s k e = mapped-declined listSize (limited s (readMeshes s)) k (e ∙ limited-mapped s listSize (readMeshes s))
 
 module _ {s : List ℕ} {n : MeshListSize} (L : Listed s n) where
+  pub listed-meshes : n .meshes ≡ length (meshesFrom s 0)
+  unfolding listSize
+  listed-meshes = ap (λ (m : MeshListSize). m .meshes) (L .size)
+
   -- its drawing's lengths
   pub listed-lengths : (n .numbers ≡ length (drawnNumbers (meshesFrom s 0))) × (n .floats ≡ length (drawnFloats (meshesFrom s 0))) × (n .records ≡ length (drawnRecords (meshesFrom s 0)))
   unfolding listSize

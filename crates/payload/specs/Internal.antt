@@ -1,7 +1,7 @@
 -- What the contracts of private functions of the mesh reader cite. No promise of a public call leans on these.
 use Prim.Native.Nat.{ℕ, zero, suc, _+_, _*_, _≤_, _<_}
 use mathlib.Core.Bool.{cond}
-use lib.Dec.{eqb}
+use lib.Dec.{leb, eqb}
 use lib.ListN.{length, getD}
 use mathlib.Core.Path.{_≡_}
 use mathlib.Core.List.{List, [], _∷_}
@@ -65,6 +65,10 @@ pub record PoolThere (s : List ℕ) (n : ℕ) : Type 0 where
 -- after the vertex count, where the pool is complete
 unfoldable pub afterCounts : List ℕ → ℕ → ℕ → Found Mesh
 afterCounts s n m = afterVertexCount s n (readWords s 32 n) m (verticesAt n)
+
+-- the meshes from a byte on, however many: no more come than there are bytes
+abbrev pub anyFrom : List ℕ → ℕ → Verdict (List Mesh)
+anyFrom s p = readFrom s (length s) p
 
 -- ---- what is known of a body that was read
 
@@ -200,9 +204,12 @@ pub record Room (t : Totals) (p : ℕ) : Type 0 where
   pub few : t .meshes ≤ p
   pub bits : t .coordinates + 48 * t .submeshes + t .points ≤ 8 * p
 
--- the totals with those of a box
+-- the totals with those of a box; 18 where it is a third mesh
 abbrev pub boxTotals : List ℕ → ℕ → ℕ → ℕ → Totals → Verdict Totals
-boxTotals s type body end t = cond (eqb type meshType) (mapped (withBody t) (readMesh (part s body end))) (accepted t)
+boxTotals s type body end t =
+    cond (eqb type meshType)
+    (cond (leb 2 (t .meshes)) (declined 18) (mapped (withBody t) (readMesh (part s body end))))
+    (accepted t)
 
 -- ---- what the filling pass goes by, and what it leaves
 
@@ -280,7 +287,7 @@ abbrev pub boxRead : List ℕ → ℕ → ℕ → ℕ → List Mesh
 boxRead s type body end = valueOr [] (boxMeshes s type body end)
 
 abbrev pub meshesFrom : List ℕ → ℕ → List Mesh
-meshesFrom s p = valueOr [] (readFrom s p)
+meshesFrom s p = valueOr [] (anyFrom s p)
 
 -- where the submesh count stands, after the vertices
 abbrev pub submeshCountAt : Run → ℕ
@@ -306,14 +313,14 @@ afterMeshes to l =
 
 -- the records of some meshes fit into a buffer of n elements, and their numbers into words
 pub record RecordRoom (l : List Mesh) (to : RecordPlace) (n : ℕ) : Type 0 where
-  pub records : to .at + length (recordsFrom (to .mesh) (to .first) l) ≤ n
-  pub meshes : to .mesh + length l < 4294967296
+  pub records : to .at + length (recordsFrom (to .eye) (to .first) l) ≤ n
+  pub meshes : to .eye + length l < 4294967296
   pub points : to .first + pointTotal l < 4294967296
 
 abbrev pub afterRecords : RecordPlace → List Mesh → RecordPlace
 afterRecords to l =
     record {
-      mesh = to .mesh + length l;
+      eye = to .eye + length l;
       first = to .first + pointTotal l;
-      at = to .at + length (recordsFrom (to .mesh) (to .first) l);
+      at = to .at + length (recordsFrom (to .eye) (to .first) l);
     }

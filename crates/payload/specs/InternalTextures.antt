@@ -11,7 +11,7 @@ use Rattle.payload.specs.declared.mesh.records.Record.{Record}
 
 -- a record by its texture and its points: nothing else of it is counted
 abbrev pub weight : ℕ → ℕ → Record
-weight texture points = record { mesh = 0; texture = texture; mode = 0; first = 0; points = points }
+weight texture points = record { eye = 0; texture = texture; mode = 0; first = 0; points = points }
 
 abbrev pub weights : List Submesh → List Record
 weights l = map (λ (x : Submesh). weight (x .texture) (length (x .points))) l

@@ -25,6 +25,7 @@ pub mod MeshRead
 pub mod MeshDrawing
 pub mod Records
 pub mod Firsts
+pub mod EyeLaws
 pub mod Textures
 pub mod Meshes
 pub mod Tables

@@ -1,6 +1,8 @@
 -- The drawing of a mesh list, made from the reading: numbers, floats and records, in file order.
 use Prim.Native.Nat.{ℕ, _+_, _*_}
 use mathlib.Core.List.{List, [], _∷_, _++_}
+use mathlib.Core.Bool.{cond}
+use lib.Dec.{eqb}
 use lib.ListN.{getD, length}
 use Rattle.payload.specs.Mesh.{Submesh, Mesh}
 use Rattle.payload.specs.MeshSpells.{sizes}
@@ -41,21 +43,25 @@ drawnFloats (x ∷ l) = meshWords x ++ drawnFloats l
 abbrev pub pointCount : List Submesh → ℕ
 pointCount l = sizes (λ (x : Submesh). length (x .points)) l
 
--- mesh number, texture, mode, first point, point count
+-- eye, texture, mode, first point, point count
 unfoldable pub submeshRecords : ℕ → ℕ → List Submesh → List ℕ
-submeshRecords number first [] = []
-submeshRecords number first (x ∷ l) =
-    (number ∷ x .texture ∷ x .mode ∷ first ∷ length (x .points) ∷ [])
-    ++ submeshRecords number (first + length (x .points)) l
+submeshRecords eye first [] = []
+submeshRecords eye first (x ∷ l) =
+    (eye ∷ x .texture ∷ x .mode ∷ first ∷ length (x .points) ∷ [])
+    ++ submeshRecords eye (first + length (x .points)) l
 
--- meshes are numbered from 0, and points counted from 0 through the whole drawing
+-- the next mesh has the next eye, and points are counted through the whole drawing
 unfoldable pub recordsFrom : ℕ → ℕ → List Mesh → List ℕ
-recordsFrom number first [] = []
-recordsFrom number first (x ∷ l) =
-    submeshRecords number first (x .submeshes) ++ recordsFrom (number + 1) (first + pointCount (x .submeshes)) l
+recordsFrom eye first [] = []
+recordsFrom eye first (x ∷ l) =
+    submeshRecords eye first (x .submeshes) ++ recordsFrom (eye + 1) (first + pointCount (x .submeshes)) l
+
+-- one mesh alone is for both eyes, 0; of two the first is the left eye's, 1, and the second the right one's, 2
+unfoldable pub firstEye : ℕ → ℕ
+firstEye meshes = cond (eqb meshes 2) 1 0
 
 abbrev pub drawnRecords : List Mesh → List ℕ
-drawnRecords l = recordsFrom 0 0 l
+drawnRecords l = recordsFrom (firstEye (length l)) 0 l
 
 -- ---- the counts that name a mesh list
 

@@ -1,5 +1,5 @@
--- m1 of document 01: a list of one mesh box, as it is read, drawn and written, with damaged copies of it, and a list of
--- two.
+-- m1 of document 01: a list of one mesh box, as it is read, drawn and written, with damaged copies of it, a list of
+-- two, and a third mesh.
 use Prim.Native.Nat.{ℕ, _+_}
 use mathlib.Core.Path.{_≡_}
 use mathlib.Core.List.{List, [], _∷_, _++_}
@@ -31,6 +31,9 @@ twoBoxes =
     oneBox
     ++ ((0x00 ∷ 0x00 ∷ 0x00 ∷ 0x09 ∷ 0x66 ∷ 0x72 ∷ 0x65 ∷ 0x65 ∷ 0xFF ∷ []) ++ (oneBox ++ (0xFF ∷ 0xFF ∷ 0xFF ∷ [])))
 
+abbrev pub twoMeshes : List ℕ
+twoMeshes = oneBox ++ oneBox
+
 -- its first 19 bytes, with that size: the second word is cut off
 abbrev pub cutBox : List ℕ
 cutBox = set (take 19 oneBox) 3 0x13
@@ -47,12 +50,24 @@ pub record MeshMarked : Type 0 where
   pub m1-numbers : drawnNumbers (oneMesh ∷ []) ≡ oneMesh .vertices
   pub m1-floats : drawnFloats (oneMesh ∷ [])
       ≡ 0 ∷ 0 ∷ 0 ∷ 0 ∷ 0 ∷ 0x3F800000 ∷ 0 ∷ 0 ∷ 0x3F800000 ∷ 0 ∷ 0 ∷ 0x3F800000 ∷ 0 ∷ 0 ∷ 0x3F800000 ∷ []
-  pub m1-records : drawnRecords (oneMesh ∷ oneMesh ∷ []) ≡ 0 ∷ 0 ∷ 0 ∷ 0 ∷ 3 ∷ 1 ∷ 0 ∷ 0 ∷ 3 ∷ 3 ∷ []
+  -- one mesh is for both eyes, and of two the first is the left eye's
+  pub m1-record : drawnRecords (oneMesh ∷ []) ≡ 0 ∷ 0 ∷ 0 ∷ 0 ∷ 3 ∷ []
+  pub m1-records : drawnRecords (oneMesh ∷ oneMesh ∷ []) ≡ 1 ∷ 0 ∷ 0 ∷ 0 ∷ 3 ∷ 2 ∷ 0 ∷ 0 ∷ 3 ∷ 3 ∷ []
   -- written from its four tables; one point too many, a texture of 256, a vertex that is not there
   pub m1-written : meshWritten (oneMesh .pool) (oneMesh .vertices) (0 ∷ 0 ∷ 3 ∷ []) (0 ∷ 1 ∷ 2 ∷ []) ≡ accepted oneBox
   pub m1-uneven : meshWritten (oneMesh .pool) (oneMesh .vertices) (0 ∷ 0 ∷ 3 ∷ []) (0 ∷ 1 ∷ 2 ∷ 0 ∷ []) ≡ declined 13
   pub m1-texture : meshWritten (oneMesh .pool) (oneMesh .vertices) (256 ∷ 0 ∷ 3 ∷ []) (0 ∷ 1 ∷ 2 ∷ []) ≡ declined 13
   pub m1-outside : meshWritten (oneMesh .pool) (oneMesh .vertices) (0 ∷ 0 ∷ 3 ∷ []) (0 ∷ 1 ∷ 3 ∷ []) ≡ declined 13
+  -- a third mesh: before what its body holds and what follows, but after its size and after the boxes before it
+  pub third : readMeshes (twoMeshes ++ oneBox) ≡ declined 18
+  pub third-damaged : readMeshes (twoMeshes ++ set oneBox 11 0x00) ≡ declined 18
+  pub third-empty : readMeshes (twoMeshes ++ (0x00 ∷ 0x00 ∷ 0x00 ∷ 0x08 ∷ 0x6D ∷ 0x65 ∷ 0x73 ∷ 0x68 ∷ [])) ≡ declined 18
+  pub third-before-size : readMeshes (twoMeshes ++ (oneBox ++ (0 ∷ 0 ∷ 0 ∷ 0 ∷ 0 ∷ 0 ∷ 0 ∷ 0 ∷ []))) ≡ declined 18
+  pub third-sized : readMeshes (twoMeshes ++ (0x00 ∷ 0x00 ∷ 0x00 ∷ 0x07 ∷ 0x6D ∷ 0x65 ∷ 0x73 ∷ 0x68 ∷ [])) ≡ declined 6
+  pub third-past : readMeshes (twoMeshes ++ take 39 oneBox) ≡ declined 6
+  pub third-after : readMeshes (oneBox ++ (set oneBox 11 0x00 ++ oneBox)) ≡ declined 7
+  -- a box of another type between them does not count
+  pub third-type : readMeshes (oneBox ++ (set oneBox 4 0x66 ++ oneBox)) ≡ accepted (oneMesh ∷ oneMesh ∷ [])
   -- the last byte is missing: the size reaches past the end
   pub m1-past : readMeshes (take 39 oneBox) ≡ declined 6
   -- the second point goes below 0; the third is 3, of three vertices

@@ -82,23 +82,28 @@ readMesh s =
     (inRange 1 10000 (field s 0 32)
     (afterPoolCount s (field s 0 32)))
 
--- ---- a list of boxes
+-- ---- a list of boxes, at most two of them meshes
 
--- a mesh box gives its mesh, another is skipped; `rest` reads on from a place
-abbrev pub readItem : List ℕ → (ℕ → Verdict (List Mesh)) → Item → Verdict (List Mesh)
-readItem s rest listEnd = accepted []
-readItem s rest (box type body end) =
-    cond (eqb type meshType)
-    (andThen (readMesh (part s body end)) (λ x. andThen (rest end) (λ l. accepted (x .0 ∷ l))))
-    (rest end)
+-- a mesh box where so many more meshes may come: 18 where none may, which is told at its type; `rest` reads on from a
+-- place
+abbrev pub readMeshBox : List ℕ → (ℕ → ℕ → Verdict (List Mesh)) → ℕ → ℕ → ℕ → Verdict (List Mesh)
+readMeshBox s rest zero body end = declined 18
+readMeshBox s rest (suc more) body end =
+    andThen (readMesh (part s body end)) (λ x. andThen (rest more end) (λ l. accepted (x .0 ∷ l)))
+
+-- a box of another type is skipped
+abbrev pub readItem : List ℕ → (ℕ → ℕ → Verdict (List Mesh)) → ℕ → Item → Verdict (List Mesh)
+readItem s rest more listEnd = accepted []
+readItem s rest more (box type body end) =
+    cond (eqb type meshType) (readMeshBox s rest more body end) (rest more end)
 
 -- each box is 8 bytes or more, so as many turns as there are bytes are enough
-unfoldable pub readBoxes : List ℕ → ℕ → ℕ → Verdict (List Mesh)
-readBoxes s zero p = accepted []
-readBoxes s (suc turns) p = andThen (headerAt s p) (readItem s (readBoxes s turns))
+unfoldable pub readBoxes : List ℕ → ℕ → ℕ → ℕ → Verdict (List Mesh)
+readBoxes s zero more p = accepted []
+readBoxes s (suc turns) more p = andThen (headerAt s p) (readItem s (readBoxes s turns) more)
 
-unfoldable pub readFrom : List ℕ → ℕ → Verdict (List Mesh)
-readFrom s p = readBoxes s (length s) p
+unfoldable pub readFrom : List ℕ → ℕ → ℕ → Verdict (List Mesh)
+readFrom s more p = readBoxes s (length s) more p
 
 abbrev pub readMeshes : List ℕ → Verdict (List Mesh)
-readMeshes s = readFrom s 0
+readMeshes s = readFrom s 2 0

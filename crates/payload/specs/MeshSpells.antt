@@ -115,15 +115,20 @@ pub record WholeBox (s : List ℕ) (p : ℕ) : Type 0 where
   pub least : bodyAt s p ≤ endAt s p
   pub most : endAt s p ≤ length s
 
--- from byte p on: free bytes, fewer than a header's; a box that holds a mesh; or a box of another type, which may hold
--- anything
-pub data BoxesSpell (s : List ℕ) : ℕ → List Mesh → Type 0 where
-  ends : {p : ℕ} → p ≤ length s → length s < p + headerBytes → BoxesSpell s p []
+-- from byte p up to one of which End holds: boxes that hold a mesh each, those of the list, and boxes of other types,
+-- which may hold anything
+pub data Boxes (s : List ℕ) (End : ℕ → Type 0) : ℕ → List Mesh → Type 0 where
+  ends : {p : ℕ} → End p → Boxes s End p []
   holds : {p : ℕ} {x : Mesh} {l : List Mesh} → WholeBox s p → typeAt s p ≡ meshType
-      → MeshSpells (part s (bodyAt s p) (endAt s p)) x → BoxesSpell s (endAt s p) l → BoxesSpell s p (x ∷ l)
-  skips : {p : ℕ} {l : List Mesh} → WholeBox s p → (typeAt s p ≡ meshType → ⊥) → BoxesSpell s (endAt s p) l
-      → BoxesSpell s p l
+      → MeshSpells (part s (bodyAt s p) (endAt s p)) x → Boxes s End (endAt s p) l → Boxes s End p (x ∷ l)
+  skips : {p : ℕ} {l : List Mesh} → WholeBox s p → (typeAt s p ≡ meshType → ⊥) → Boxes s End (endAt s p) l
+      → Boxes s End p l
 
--- the list of meshes l spells the payload s
-abbrev pub MeshesSpell : List Mesh → List ℕ → Type 0
-MeshesSpell l s = BoxesSpell s 0 l
+-- up to the free bytes at the payload's end, fewer than a header's
+abbrev pub BoxesSpell : List ℕ → ℕ → List Mesh → Type 0
+BoxesSpell s p l = Boxes s (λ q. (q ≤ length s) × (length s < q + headerBytes)) p l
+
+-- the list of meshes l spells the payload s: at most two, one for each eye or one for both
+pub record MeshesSpell (l : List Mesh) (s : List ℕ) : Type 0 where
+  pub boxes : BoxesSpell s 0 l
+  pub most : length l ≤ 2

@@ -38,7 +38,7 @@ measuredSays (M.Declined k) = declined k
 abbrev pub drawnMeshes : List Mesh → Plan MeshListSize
 drawnMeshes l = record { answer = listSize l; lists = drawnNumbers l ∷ drawnFloats l ∷ drawnRecords l ∷ [] }
 
--- 2, then 3, 6, 7, 8 and 17 in payload order
+-- 2, then 3, 6, 7, 8, 17 and 18 in payload order
 abbrev pub meshesPlan : List ℕ → Verdict (Plan MeshListSize)
 meshesPlan s = mapped drawnMeshes (limited s (readMeshes s))
 

@@ -5,16 +5,16 @@ use Rattle.payload.specs.MeshSpells.{sizes}
 use Rattle.payload.specs.declared.mesh.records.Record.{Record}
 
 abbrev pub recordWords : Record → List ℕ
-recordWords r = r .mesh ∷ r .texture ∷ r .mode ∷ r .first ∷ r .points ∷ []
+recordWords r = r .eye ∷ r .texture ∷ r .mode ∷ r .first ∷ r .points ∷ []
 
--- five words are a record: mesh number, texture, mode, first point, point count; words after the last five are none
+-- five words are a record: eye, texture, mode, first point, point count; words after the last five are none
 unfoldable pub recordsIn : List ℕ → List Record
-recordsIn (m ∷ t ∷ o ∷ p ∷ n ∷ words) =
-    record { mesh = m; texture = t; mode = o; first = p; points = n } ∷ recordsIn words
-recordsIn (m ∷ t ∷ o ∷ p ∷ []) = []
-recordsIn (m ∷ t ∷ o ∷ []) = []
-recordsIn (m ∷ t ∷ []) = []
-recordsIn (m ∷ []) = []
+recordsIn (e ∷ t ∷ o ∷ p ∷ n ∷ words) =
+    record { eye = e; texture = t; mode = o; first = p; points = n } ∷ recordsIn words
+recordsIn (e ∷ t ∷ o ∷ p ∷ []) = []
+recordsIn (e ∷ t ∷ o ∷ []) = []
+recordsIn (e ∷ t ∷ []) = []
+recordsIn (e ∷ []) = []
 recordsIn [] = []
 
 -- the points of some records together

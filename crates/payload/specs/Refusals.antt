@@ -1,5 +1,5 @@
--- Which refusals each call can give: only those that document 01 lists for it, and 12 only where it is listed; so none
--- gives 16, which is the field reader's. The proofs are in proofs/RefusalProofs.antt.
+-- Which refusals each call can give: only those that documents 01 and 02 list for it, and 12 only where it is listed;
+-- so none gives 16, which is the field reader's. The proofs are in proofs/RefusalProofs.antt.
 use Prim.Native.Nat.{ℕ}
 use mathlib.Core.List.{List, [], _∷_}
 use lib.Ieee.{Float}
@@ -28,16 +28,17 @@ pub record EachCall (Plain Or12 : Claim) : Type 0 where
   pub parse-equi : (s : List ℕ) → Plain _ (2 ∷ 3 ∷ 4 ∷ 10 ∷ []) (limited s (mapped withCrop (equiRead s)))
   pub parse-cbmp : (s : List ℕ) → Plain _ (2 ∷ 3 ∷ 4 ∷ 5 ∷ []) (limited s (cbmpRead s))
   pub measure-mesh : (s : List ℕ) → Plain _ (2 ∷ 3 ∷ 7 ∷ 8 ∷ 17 ∷ []) (mapped tableLengths (bodyRead s))
-  pub measure-meshes : (s : List ℕ) → Plain _ (2 ∷ 3 ∷ 6 ∷ 7 ∷ 8 ∷ 17 ∷ []) (limited s (mapped listSize (readMeshes s)))
+  pub measure-meshes : (s : List ℕ)
+      → Plain _ (2 ∷ 3 ∷ 6 ∷ 7 ∷ 8 ∷ 17 ∷ 18 ∷ []) (limited s (mapped listSize (readMeshes s)))
   -- those that are
   pub parse-mesh : (s : List ℕ) (buffers : List (List ℕ))
       → Or12 _ (2 ∷ 3 ∷ 7 ∷ 8 ∷ 17 ∷ []) (answerFor (tablesPlan s) buffers)
   pub parse-meshes : (s : List ℕ) (buffers : List (List ℕ))
-      → Or12 _ (2 ∷ 3 ∷ 6 ∷ 7 ∷ 8 ∷ 17 ∷ []) (answerFor (meshesPlan s) buffers)
+      → Or12 _ (2 ∷ 3 ∷ 6 ∷ 7 ∷ 8 ∷ 17 ∷ 18 ∷ []) (answerFor (meshesPlan s) buffers)
   pub mesh-records : (s : List ℕ) (buffers : List (List ℕ))
-      → Or12 _ (2 ∷ 3 ∷ 6 ∷ 7 ∷ 8 ∷ 17 ∷ []) (answerFor (recordsPlan s) buffers)
+      → Or12 _ (2 ∷ 3 ∷ 6 ∷ 7 ∷ 8 ∷ 17 ∷ 18 ∷ []) (answerFor (recordsPlan s) buffers)
   pub texture-points : (s : List ℕ) (buffers : List (List ℕ))
-      → Or12 _ (2 ∷ 3 ∷ 6 ∷ 7 ∷ 8 ∷ 17 ∷ []) (answerFor (inItems 2 (texturesFound s)) buffers)
+      → Or12 _ (2 ∷ 3 ∷ 6 ∷ 7 ∷ 8 ∷ 17 ∷ 18 ∷ []) (answerFor (inItems 2 (texturesFound s)) buffers)
   -- the sphere and the cube
   pub sphere-indices-bounded : (rings sectors : ℕ) (b : Bounds) (buffers : List (List ℕ))
       → Or12 _ (9 ∷ 10 ∷ []) (answerFor (inItems 1 (sphereNumbers rings sectors b)) buffers)

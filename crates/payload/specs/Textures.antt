@@ -38,6 +38,6 @@ listRecords l = recordsIn (drawnRecords l)
 abbrev pub listTextures : List Mesh → List ℕ
 listTextures l = textureWords (listRecords l)
 
--- 2, then 3, 6, 7, 8 and 17 in payload order
+-- 2, then 3, 6, 7, 8, 17 and 18 in payload order
 unfoldable pub texturesFound : List ℕ → Verdict (List ℕ)
 texturesFound s = mapped listTextures (limited s (readMeshes s))

@@ -117,7 +117,7 @@ module _ (s : List ℕ) (cells : ℕ) (radius : Float) (F : ℕ) where
 
 -- ---- kind 2: what the measuring call refuses
 
-meshes-refuse : (g : Given) (s : List ℕ) → Refuses (2 ∷ 3 ∷ 6 ∷ 7 ∷ 8 ∷ 17 ∷ []) (kindPlan mesh g s)
+meshes-refuse : (g : Given) (s : List ℕ) → Refuses (2 ∷ 3 ∷ 6 ∷ 7 ∷ 8 ∷ 17 ∷ 18 ∷ []) (kindPlan mesh g s)
 meshes-refuse g s =
     rw (limited-mapped s (planOf mesh g) (readMeshes s))
     (remade listSize (planOf mesh g) (limited s (readMeshes s))

@@ -29,7 +29,7 @@ sixteen (declined (suc k)) e = let same : k ≡ 15 = cc in ap (λ (n : ℕ). dec
 
 not-points : (s : List ℕ) → limited s (mapped pointTotal (readMeshes s)) ≡ declined 16 → ⊥
 not-points s =
-    unlisted {ks = 2 ∷ 3 ∷ 6 ∷ 7 ∷ 8 ∷ 17 ∷ []} 16 refl
+    unlisted {ks = 2 ∷ 3 ∷ 6 ∷ 7 ∷ 8 ∷ 17 ∷ 18 ∷ []} 16 refl
     (rw (limited-mapped s pointTotal (readMeshes s))
     (remade listSize pointTotal (limited s (readMeshes s))
     (rw (limited-mapped s listSize (readMeshes s)) at (refusals .measure-meshes s))))

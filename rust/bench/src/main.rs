@@ -1,8 +1,8 @@
 //! Times of the reference and of the library on the same data, the two sides in turn.
 //!
-//! `bench` prints the tables. `bench once rust|ours small|random|tiny` runs one side of the mesh reader once, in
-//! `meshes::counted`, for an instruction counter, and `bench once rust|ours writer small|random` one of the mesh writer,
-//! in `writer::counted`.
+//! `bench` prints the tables. For an instruction counter, `bench once rust|ours small|random|tiny` makes one run of one
+//! side of the mesh reader, in `meshes::counted`, and `bench once rust|ours writer small|random` one of the writer, in
+//! `writer::counted`.
 
 mod fields;
 mod fills;

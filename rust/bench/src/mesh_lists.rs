@@ -1,4 +1,4 @@
-//! Mesh lists to time: one mesh, again and again.
+//! Mesh lists to time: of one mesh or of two.
 
 use spell::{Mesh, Part, Spelled, Submesh, FIELDS};
 
@@ -64,9 +64,20 @@ fn up_and_down(random: &mut Random, count: usize, limit: i64) -> Vec<i64> {
     numbers
 }
 
-/// As many boxes of a mesh as fit into so many bytes.
-pub fn repeated(mesh: Mesh, most: usize) -> Vec<u8> {
+/// The list of a mesh alone.
+pub fn lone(mesh: Mesh) -> Vec<u8> {
     let mut one = Spelled::default();
     one.push(&Part::Mesh(mesh));
-    one.bytes.repeat(most / one.bytes.len())
+    one.bytes
+}
+
+/// The list of a mesh for each eye, both the same.
+pub fn pair(mesh: Mesh) -> Vec<u8> {
+    lone(mesh).repeat(2)
+}
+
+/// A large mesh with as many submeshes as fit into so many bytes.
+pub fn filled(most: usize) -> Vec<u8> {
+    let [one, two] = [1, 2].map(|submeshes| lone(large(Steps::Small, submeshes)).len());
+    lone(large(Steps::Small, 1 + (most - one) / (two - one)))
 }

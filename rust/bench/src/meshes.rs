@@ -1,15 +1,13 @@
-//! Times of `parse_meshes` on lists of large and of tiny meshes.
+//! Times of `parse_meshes` on lists of one and of two large meshes and of a tiny one.
 
 use std::hint::black_box;
 
 use reference::mesh;
 
-use crate::mesh_lists::{large, repeated, tiny, Steps};
+use crate::mesh_lists::{filled, large, lone, pair, tiny, Steps};
 use crate::timing::medians;
 
 const MIB: usize = 1 << 20;
-/// Bytes that one mesh with four large submeshes fits into, and two do not.
-const ONE_LARGE: usize = 2 * MIB;
 const RUNS: usize = 15;
 /// Mebibytes of the lists that grow, and the runs for each.
 const GROWING: [(usize, usize); 4] = [(1, 15), (4, 9), (16, 5), (64, 3)];
@@ -18,8 +16,8 @@ const HEADING: [&str; 5] = [
     "parse_meshes, ours with three buffers of exactly the needed lengths, allocated once outside",
     "the timing and warm; the time has our own measuring pass, and the Rust's allocating and",
     "freeing of its answer; a large mesh has 10000 coordinates, 32000 vertices and submeshes of",
-    "128000 points, a tiny one 4, 6 and one of 12; both sides gave the same drawing before;",
-    "medians of the runs, ratio = ours / rust",
+    "128000 points, a tiny one 4, 6 and one of 12, and is read again and again up to 1 MiB; both sides",
+    "gave the same drawing before; medians of the runs, ratio = ours / rust",
 ];
 
 struct Buffers {
@@ -41,22 +39,23 @@ pub fn table() -> Result<(), String> {
         ("1 large, small steps", Steps::Small),
         ("1 large, random steps", Steps::Random),
     ] {
-        row(name, &repeated(large(steps, 4), ONE_LARGE), RUNS)?;
+        row(name, &lone(large(steps, 4)), RUNS)?;
     }
-    row("tiny ones", &repeated(tiny(), MIB), RUNS)?;
+    row("2 large, small steps", &pair(large(Steps::Small, 2)), RUNS)?;
+    row("1 tiny, again and again", &lone(tiny()), RUNS)?;
     for (mebibytes, runs) in GROWING {
-        let payload = repeated(large(Steps::Small, 2), mebibytes * MIB);
-        row(&format!("large ones in {mebibytes} MiB"), &payload, runs)?;
+        let payload = filled(mebibytes * MIB);
+        row(&format!("1 large in {mebibytes} MiB"), &payload, runs)?;
     }
     Ok(())
 }
 
-/// Runs one side once on one of the first three lists.
+/// Makes one run of one side on one of these lists, as for its row.
 pub fn once(side: &str, list: &str) -> Result<(), String> {
     let payload = match list {
-        "small" => repeated(large(Steps::Small, 4), ONE_LARGE),
-        "random" => repeated(large(Steps::Random, 4), ONE_LARGE),
-        "tiny" => repeated(tiny(), MIB),
+        "small" => lone(large(Steps::Small, 4)),
+        "random" => lone(large(Steps::Random, 4)),
+        "tiny" => lone(tiny()),
         _ => return Err(format!("no list {list}")),
     };
     let mut buffers = needed(&payload).ok_or("not measured".to_string())?;
@@ -68,9 +67,10 @@ pub fn once(side: &str, list: &str) -> Result<(), String> {
 /// Under a name of its own, for an instruction counter to start and stop at.
 #[inline(never)]
 fn counted(side: &str, payload: &[u8], buffers: &mut Buffers) -> Option<u64> {
+    let times = times(payload);
     match side {
-        "rust" => rust(payload),
-        "ours" => ours(payload, buffers),
+        "rust" => repeated(times, || rust(black_box(payload))),
+        "ours" => repeated(times, || ours(black_box(payload), buffers)),
         _ => None,
     }
 }
@@ -81,17 +81,18 @@ fn row(name: &str, payload: &[u8], runs: usize) -> Result<(), String> {
     if points.is_none() || !same(payload, &buffers) {
         return Err(format!("the drawings differ: {name}"));
     }
+    let times = times(payload);
     let (rust, ours) = medians(
         runs,
         buffers,
-        |_| rust(black_box(payload)),
-        |buffers| ours(black_box(payload), buffers),
+        |_| repeated(times, || rust(black_box(payload))),
+        |buffers| repeated(times, || ours(black_box(payload), buffers)),
     );
-    let bytes = payload.len();
+    let bytes = times * payload.len();
     let per_byte = |time: f64| time / bytes as f64;
     println!(
         "{name:<26} {bytes:>8} {:>8} {runs:>4} {:>8.2} {:>8.2} {:>9.3} {:>9.3} {:>6.3}",
-        points.unwrap_or(0),
+        times as u64 * points.unwrap_or(0),
         rust / 1e6,
         ours / 1e6,
         per_byte(rust),
@@ -99,6 +100,16 @@ fn row(name: &str, payload: &[u8], runs: usize) -> Result<(), String> {
         ours / rust
     );
     Ok(())
+}
+
+/// How often a list is read in a run: as often as its bytes fit into 1 MiB, and once at least.
+fn times(payload: &[u8]) -> usize {
+    (MIB / payload.len()).max(1)
+}
+
+/// The points of all calls together.
+fn repeated(times: usize, mut call: impl FnMut() -> Option<u64>) -> Option<u64> {
+    (0..times).map(|_| call()).sum()
 }
 
 fn needed(payload: &[u8]) -> Option<Buffers> {
@@ -140,12 +151,14 @@ fn same(payload: &[u8], buffers: &Buffers) -> bool {
     };
     let mut records = buffers.records.chunks_exact(5);
     let mut floats = &buffers.floats[..];
-    for (number, mesh) in meshes.iter().enumerate() {
+    // One mesh is for both eyes, 0; of two the first is for the left one, 1.
+    let first_eye = u32::from(meshes.len() == 2);
+    for (eye, mesh) in (first_eye..).zip(&meshes) {
         for submesh in &mesh.submeshes {
             let points = submesh.vertex_count();
             let first = (buffers.floats.len() - floats.len()) / 5;
             let (texture, mode) = (submesh.texture_id.into(), submesh.mode.into());
-            let record = [number as u32, texture, mode, first as u32, points as u32];
+            let record = [eye, texture, mode, first as u32, points as u32];
             let Some((drawn, rest)) = floats.split_at_checked(5 * points) else {
                 return false;
             };

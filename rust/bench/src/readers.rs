@@ -4,13 +4,11 @@ use std::hint::black_box;
 
 use reference::mesh;
 
-use crate::mesh_lists::{large, repeated, Steps};
+use crate::mesh_lists::{large, lone, Steps};
 use crate::timing::medians;
 
 const RUNS: usize = 15;
-/// Bytes that one mesh with four large submeshes fits into, and two do not.
-const ONE_LARGE: usize = 2 << 20;
-/// The words of its four records.
+/// The words of the four records of the list.
 const RECORDS: usize = 20;
 /// The words of all textures.
 const TEXTURES: usize = 512;
@@ -41,7 +39,7 @@ pub fn table() -> Result<(), String> {
         "{:<18} {:>8} {:>4} {:>8} {:>8} {:>6}",
         "call", "bytes", "runs", "rust_ms", "ours_ms", "ratio"
     );
-    let payload = repeated(large(Steps::Small, 4), ONE_LARGE);
+    let payload = lone(large(Steps::Small, 4));
     row("measure_meshes", &payload, (), rust_list, measured)?;
     row(
         "mesh_records",

@@ -19,3 +19,5 @@ pub const RECORDS: i64 = 15;
 pub const WIDE: i64 = 16;
 /// A pool word is not finite.
 pub const BAD_WORD: i64 = 17;
+/// A third mesh box begins.
+pub const THIRD_MESH: i64 = 18;

@@ -10,7 +10,7 @@ use crate::{memory, raw};
 /// Puts the triangles of records into a buffer, submesh after submesh, and answers how many numbers there are: three
 /// point numbers for each triangle. Mode 0 takes points in threes and drops one or two that are left over; mode 1 is a
 /// strip, in which every other triangle has its first two points exchanged, so that all turn the same way; mode 2 is a
-/// fan.
+/// fan. A record's eye and texture are not looked at.
 ///
 /// Refused with 15, then 12.
 ///
@@ -18,7 +18,7 @@ use crate::{memory, raw};
 /// use hoodsorrel::display::triangles;
 /// use hoodsorrel::{Needed, Refusal};
 ///
-/// // Of mesh 0 and texture 7: a strip of four points, and a fan of four after it.
+/// // For both eyes and with texture 7: a strip of four points, and a fan of four after it.
 /// let records = [0, 7, 1, 0, 4, 0, 7, 2, 4, 4];
 /// let mut numbers = [0; 12];
 /// assert_eq!(triangles(&records, &mut numbers), Ok(12));
@@ -43,8 +43,8 @@ impl Drawing {
     /// use hoodsorrel::{Drawing, Given};
     ///
     /// # let payload = [
-    /// #     0, 0, 0, 0x20, b'm', b'e', b's', b'h', 0, 0, 0, 1, 0x3F, 0, 0, 0, 0, 0, 0, 1, 0x00, 0, 0, 0, 1, 7, 1, 0, 0,
-    /// #     0, 4, 0x00,
+    /// #     0, 0, 0, 0x20, b'm', b'e', b's', b'h', 0, 0, 0, 1, 0x3F, 0, 0, 0, 0, 0, 0, 1, 0x00, 0, 0, 0, 1, 7, 1, 0,
+    /// #     0, 0, 4, 0x00,
     /// # ];
     /// // One vertex; one submesh, a strip of four points.
     /// let drawing = Drawing::of(MESHES, &payload, &Given::default())?;

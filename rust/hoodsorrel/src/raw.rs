@@ -4,7 +4,8 @@
 //! `words[0]` on, or nothing where `words` is shorter; or `-k` for refusal k, which stores nothing;
 //! or [`NEEDS`] with the needed lengths from `words[0]` on.
 //! The others answer a number itself, or `-k`. A float in a number, in words and in a lent `&mut [u32]` is
-//! its bit pattern; an eye is 0 for the left one and any other number for the right one.
+//! its bit pattern; an eye that is handed in is 0 for the left one and any other number for the right one, which is not
+//! how records count them.
 
 use std::slice;
 

@@ -63,6 +63,8 @@ pub enum Refusal {
     FieldWidth,
     /// 17: a pool word is an infinity or a NaN.
     NotFinite,
+    /// 18: a third mesh box begins. A list has one mesh for both eyes or one for each.
+    ThirdMesh,
 }
 
 /// The lengths that 12 tells.
@@ -77,7 +79,7 @@ pub enum Needed {
 }
 
 impl Refusal {
-    /// 1 to 17.
+    /// 1 to 18.
     pub const fn number(self) -> u8 {
         match self {
             Refusal::Kind => 1,
@@ -97,6 +99,7 @@ impl Refusal {
             Refusal::Records => 15,
             Refusal::FieldWidth => 16,
             Refusal::NotFinite => 17,
+            Refusal::ThirdMesh => 18,
         }
     }
 
@@ -106,12 +109,12 @@ impl Refusal {
     /// use hoodsorrel::Refusal;
     ///
     /// assert_eq!(Refusal::from_number(8), Some(Refusal::RunningNumber));
-    /// assert_eq!(Refusal::from_number(17), Some(Refusal::NotFinite));
-    /// assert_eq!([0, 12, 18].map(Refusal::from_number), [None; 3]);
+    /// assert_eq!(Refusal::from_number(18), Some(Refusal::ThirdMesh));
+    /// assert_eq!([0, 12, 19].map(Refusal::from_number), [None; 3]);
     /// ```
     pub fn from_number(number: u8) -> Option<Refusal> {
         match number {
-            1..=11 | 13..=17 => Some(Refusal::of_code(-i64::from(number), Needed::One(0))),
+            1..=11 | 13..=18 => Some(Refusal::of_code(-i64::from(number), Needed::One(0))),
             _ => None,
         }
     }
@@ -152,6 +155,7 @@ impl Refusal {
             }
             Refusal::FieldWidth => "a field width is above 32",
             Refusal::NotFinite => "a pool word is an infinity or a NaN",
+            Refusal::ThirdMesh => "a third mesh box begins",
         }
     }
 
@@ -183,6 +187,7 @@ impl Refusal {
             -15 => Refusal::Records,
             -16 => Refusal::FieldWidth,
             -17 => Refusal::NotFinite,
+            -18 => Refusal::ThirdMesh,
             _ => Refusal::CountTooLarge,
         }
     }
@@ -221,7 +226,7 @@ mod tests {
     use super::{Needed, Refusal};
 
     fn numbers() -> impl Iterator<Item = u8> {
-        1..=17
+        1..=18
     }
 
     #[test]

@@ -105,7 +105,7 @@ pub struct SceneAnswer {
 
 /// Draws a payload of a kind into three lent buffers.
 ///
-/// Refused with 1, 2, then 3 to 8 and 17 in payload order, then 9, 10, 11 and 12. Unless it is accepted the buffers
+/// Refused with 1, 2, then 3 to 8, 17 and 18 in payload order, then 9, 10, 11 and 12. Unless it is accepted the buffers
 /// stay as they were.
 ///
 /// ```
@@ -222,7 +222,7 @@ impl Scene<'_> {
 /// ```
 /// use hoodsorrel::scene::{Drawing, Named, MESHES};
 /// use hoodsorrel::payload::Counts;
-/// use hoodsorrel::Given;
+/// use hoodsorrel::{Given, Refusal};
 ///
 /// # let payload = [
 /// #     0, 0, 0, 0x20, b'm', b'e', b's', b'h', 0, 0, 0, 1, 0x3F, 0, 0, 0, 0, 0, 0, 1, 0x00, 0, 0, 0, 1, 7, 4, 0, 0, 0,
@@ -233,9 +233,14 @@ impl Scene<'_> {
 /// assert_eq!(drawing.named, Named::Meshes(Counts { meshes: 1, submeshes: 1, points: 2 }));
 /// for record in drawing.submeshes() {
 ///     let points = drawing.points_of(record).expect("a record of this drawing");
-///     assert_eq!((record.texture, points), (7, &[[0.5; 5]; 2][..]));
+///     assert_eq!((record.eye, record.texture, points), (0, 7, &[[0.5; 5]; 2][..]));
 /// }
-/// # Ok::<(), hoodsorrel::Refusal>(())
+///
+/// // One such mesh for each eye, and one too many.
+/// let drawing = Drawing::of(MESHES, &payload.repeat(2), &Given::default())?;
+/// assert!(drawing.submeshes().map(|record| record.eye).eq([1, 2]));
+/// assert_eq!(Drawing::of(MESHES, &payload.repeat(3), &Given::default()), Err(Refusal::ThirdMesh));
+/// # Ok::<(), Refusal>(())
 /// ```
 #[derive(Clone, Debug, PartialEq)]
 pub struct Drawing {
@@ -245,7 +250,7 @@ pub struct Drawing {
     pub numbers: Vec<u16>,
     /// The floats of the vertices, or of a mesh list's points. All are finite.
     pub floats: Vec<f32>,
-    /// The records of a mesh list.
+    /// The records of a mesh list, which [`Drawing::submeshes`] takes apart.
     pub records: Vec<u32>,
 }
 

@@ -16,7 +16,7 @@ use crate::refusal::{Needed, Refusal};
 
 /// How many points the mesh list of a kind 2 payload draws.
 ///
-/// Refused with 2, 3, 6, 7, 8 or 17.
+/// Refused with 2, then 3, 6, 7, 8, 17 and 18 in payload order.
 ///
 /// ```
 /// use hoodsorrel::viewer::measure_meshes;
@@ -29,6 +29,10 @@ use crate::refusal::{Needed, Refusal};
 /// ];
 /// assert_eq!(measure_meshes(&payload), Ok(3));
 /// assert_eq!(measure_meshes(&payload[..39]), Err(Refusal::BoxSize));
+///
+/// // One such mesh for each eye, and one too many.
+/// assert_eq!(measure_meshes(&payload.repeat(2)), Ok(6));
+/// assert_eq!(measure_meshes(&payload.repeat(3)), Err(Refusal::ThirdMesh));
 /// ```
 pub fn measure_meshes(payload: &[u8]) -> Result<u64, Refusal> {
     answer(raw::viewer_measure_meshes(payload))

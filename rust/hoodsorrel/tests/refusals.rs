@@ -61,6 +61,7 @@ fn bad_lists() -> Vec<(u8, Vec<u8>)> {
         .collect();
     lists.push((2, vec![0; LONGEST + 1]));
     lists.push((6, b"\0\0\0\x07mesh".to_vec()));
+    lists.push((18, boxed(&good_body()).repeat(3)));
     lists
 }
 
@@ -278,4 +279,41 @@ fn each_call_with_each_of_its_refusals() {
     scenes(&mut met);
     displays(&mut met);
     assert_eq!(met.0, promised());
+}
+
+/// The number that each call on mesh lists refuses a list with, lent no buffer.
+fn by_each_reader(list: &[u8]) -> [Option<u8>; 6] {
+    let given = Given::default();
+    [
+        measure_meshes(list).err(),
+        viewer::measure_meshes(list).err(),
+        mesh_records(list, &mut []).err(),
+        texture_points(list, &mut []).err(),
+        parse_meshes(list, &mut [], &mut [], &mut []).err(),
+        scene(2, list, &given, &mut [], &mut [], &mut []).err(),
+    ]
+    .map(|refusal| refusal.map(Refusal::number))
+}
+
+/// Behind its size, before its body and whatever follows; a box that is skipped is none.
+#[test]
+fn a_third_mesh_is_refused_at_its_type() {
+    let mesh = boxed(&good_body());
+    let skipped = b"\0\0\0\x08free";
+    let [bad_mesh, bad_size] = [&b"\0\0\0\x08mesh"[..], b"\0\0\0\x07mesh"];
+    let short = Some(12);
+    for (number, boxes) in [
+        (Some(18), [&mesh[..], &mesh, &mesh, skipped]),
+        (Some(18), [&mesh, skipped, &mesh, bad_mesh]),
+        (Some(18), [&mesh, &mesh, bad_mesh, bad_size]),
+        (Some(6), [&mesh, &mesh, bad_size, bad_mesh]),
+        (Some(3), [&mesh, bad_mesh, &mesh, &mesh]),
+        (Some(3), [bad_mesh, &mesh, &mesh, &mesh]),
+        (None, [skipped, &mesh, skipped, &mesh]),
+        (None, [&mesh, skipped, skipped, skipped]),
+    ] {
+        let lent_none = number.or(short);
+        let due = [number, number, lent_none, lent_none, lent_none, lent_none];
+        assert_eq!(by_each_reader(&boxes.concat()), due, "{boxes:02x?}");
+    }
 }

@@ -39,11 +39,11 @@ fn listing(payload: &[u8]) -> String {
     match Drawing::of(MESHES, payload, &Given::default()) {
         Err(refusal) => format!("refused {}\n", refusal.number()),
         Ok(drawing) => {
-            let mut text = String::from("mesh texture mode first points\n");
+            let mut text = String::from("eye texture mode first points\n");
             for r in drawing.submeshes() {
                 text += &format!(
                     "{} {} {} {} {}\n",
-                    r.mesh, r.texture, r.mode, r.first, r.points
+                    r.eye, r.texture, r.mode, r.first, r.points
                 );
             }
             let mut textures = [0; 512];

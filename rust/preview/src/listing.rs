@@ -1,13 +1,14 @@
 //! What was read: in lines for standard output, and as a table for the page.
 
 use crate::colours::{colour, COLOURS};
+use crate::eyes;
 use crate::modes;
 use crate::numbers::{counted, minus, thousands};
 use crate::scene::Counts;
 use crate::submeshes::RECORD;
 use crate::table::{Side, Table};
 
-const HEADING: &str = "mesh texture mode first points";
+const HEADING: &str = "eye texture mode first points";
 /// Rows of records that the page shows.
 const SHOWN: usize = COLOURS;
 
@@ -66,7 +67,7 @@ fn texture_line(texture: &[u32]) -> String {
 
 fn records_table(records: &[u32], counts: &Counts) -> Table {
     let mut table = Table::new([
-        ("mesh", Side::Right),
+        ("eye", Side::Left),
         ("texture", Side::Right),
         ("mode", Side::Left),
         ("first", Side::Right),
@@ -75,10 +76,9 @@ fn records_table(records: &[u32], counts: &Counts) -> Table {
     let records = records.chunks_exact(RECORD);
     let more = records.len().saturating_sub(SHOWN);
     for (number, record) in records.take(SHOWN).enumerate() {
-        let [mesh, texture, mode, first, points] = [0, 1, 2, 3, 4].map(|word| record[word]);
-        let [mesh, texture, first, points] =
-            [mesh, texture, first, points].map(|word| thousands(word.into()));
-        let words = [mesh, texture, modes::named(mode), first, points];
+        let [eye, texture, mode, first, points] = [0, 1, 2, 3, 4].map(|word| record[word]);
+        let [texture, first, points] = [texture, first, points].map(|word| thousands(word.into()));
+        let words = [eyes::named(eye), texture, modes::named(mode), first, points];
         table.row(Some(colour(number)), words);
     }
     if more > 0 {
@@ -137,12 +137,12 @@ mod tests {
         let (two, counts) = records(2);
         assert_eq!(
             Listing::Records(&two, &[1, 600], &counts).text(),
-            "mesh texture mode first points\n0 1 0 0 300\n0 1 1 300 300\ntexture 1 points 600\ntotal 1 2 600\n"
+            "eye texture mode first points\n0 1 0 0 300\n0 1 1 300 300\ntexture 1 points 600\ntotal 1 2 600\n"
         );
         let (none, counts) = records(0);
         assert_eq!(
             Listing::Records(&none, &[], &counts).text(),
-            "mesh texture mode first points\ntotal 1 0 0\n"
+            "eye texture mode first points\ntotal 1 0 0\n"
         );
     }
 
@@ -169,7 +169,7 @@ mod tests {
     fn the_page_names_columns_modes_and_totals() {
         let (five, counts) = records(5);
         let svg = drawn(&Listing::Records(&five, &[], &counts));
-        for words in ["mesh", "texture", "mode", "first", "points", "1,200"] {
+        for words in ["eye", "texture", "mode", "first", "points", "1,200"] {
             assert!(svg.contains(&format!(">{words}<")), "{words}");
         }
         for words in [

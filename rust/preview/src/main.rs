@@ -4,6 +4,7 @@
 mod axes;
 mod colours;
 mod cube;
+mod eyes;
 mod letters;
 mod listing;
 mod modes;

@@ -7,7 +7,7 @@ use crate::plane::{point, Area};
 use crate::scene::{Counts, Reading, Scene};
 use crate::svg::{Svg, WIDTH};
 use crate::table::Table;
-use crate::{cube, ranges, space, sphere, textures};
+use crate::{cube, eyes, ranges, space, sphere, textures};
 
 /// Heights of the picture of a crop or a cube map, and of a mesh list's textures.
 const HEIGHT: f64 = 458.0;
@@ -71,7 +71,8 @@ fn draw_meshes(svg: &mut Svg, mesh: usize, scene: &Scene, counts: &Counts, table
         return bottom;
     }
     let heading = point(MARGIN, bottom + 2.0 * MARGIN);
-    svg.words(heading, BOLD, &format!("mesh {mesh} in space"));
+    let whose = eyes::of_mesh(mesh, counts.meshes);
+    svg.words(heading, BOLD, &format!("mesh {mesh}, {whose}, in space"));
     let ranges = ranges::table(scene, mesh);
     beside(svg, heading.y + MARGIN, 0.0, &ranges, |svg, area| {
         space::draw(svg, area, scene, mesh)

@@ -1,4 +1,4 @@
-//! Panels of one size and one scale, row by row.
+//! Panels of one size and one scale, row by row: one for each mesh.
 
 use crate::plane::{point, Area, Point, View};
 
@@ -123,7 +123,7 @@ mod tests {
 
     #[test]
     fn panels_stay_within_their_area() {
-        for count in 1..=24 {
+        for count in [1, 2] {
             for far in [(1.0, 1.0), (40.0, 0.5), (-3.0, 9.0), (f32::MAX.into(), 0.0)] {
                 let panels = Panels::new(AREA, count, extent(&[far]));
                 assert!(panels.scale > 0.0);
@@ -135,10 +135,24 @@ mod tests {
     }
 
     #[test]
+    fn two_panels_stand_where_they_are_largest() {
+        let second = |far| {
+            let panels = Panels::new(AREA, 2, extent(&[far]));
+            let [first, second] = [0, 1].map(|panel| panels.corner_of(panel));
+            (second.x > first.x, second.y > first.y)
+        };
+        let (beside, below) = ((true, false), (false, true));
+        assert_eq!(second((1.0, 1.0)), beside);
+        assert_eq!(second((40.0, 0.5)), below);
+    }
+
+    #[test]
     fn a_view_shows_the_whole_extent() {
-        let panels = Panels::new(AREA, 3, extent(&[(-1.0, 4.0)]));
-        let corner = panels.corner_of(2).moved(LEFT, ABOVE);
-        let left_top = panels.view(2).at(point(-1.0, 4.0));
-        assert!((left_top.x - corner.x).abs() < 0.01 && (left_top.y - corner.y).abs() < 0.01);
+        let panels = Panels::new(AREA, 2, extent(&[(-1.0, 4.0)]));
+        for panel in [0, 1] {
+            let corner = panels.corner_of(panel).moved(LEFT, ABOVE);
+            let left_top = panels.view(panel).at(point(-1.0, 4.0));
+            assert!((left_top.x - corner.x).abs() < 0.01 && (left_top.y - corner.y).abs() < 0.01);
+        }
     }
 }

@@ -1,11 +1,12 @@
 //! The submeshes of a mesh list, and their drawing on a plane.
 
 use crate::colours::colour;
+use crate::eyes;
 use crate::plane::Point;
 use crate::scene::{triangles, Scene};
 use crate::svg::{triangles_style, Path, Svg};
 
-/// Words of a record: mesh, texture, mode, first point, points.
+/// Words of a record: eye, texture, mode, first point, points.
 pub const RECORD: usize = 5;
 /// Words of a drawn point: x, y, z, u, v.
 pub const POINT: usize = 5;
@@ -22,7 +23,7 @@ pub fn submeshes(scene: &Scene) -> impl Iterator<Item = Submesh<'_>> {
     let records = scene.records.chunks_exact(RECORD).enumerate();
     records.map(move |(number, record)| Submesh {
         number,
-        mesh: record[0] as usize,
+        mesh: eyes::mesh(record[0]),
         record,
         scene,
     })

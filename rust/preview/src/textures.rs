@@ -1,55 +1,38 @@
 //! The texture coordinates of a mesh list: a panel for each mesh with u and v of its submeshes.
 
 use crate::axes;
-use crate::numbers::thousands;
+use crate::eyes;
 use crate::panels::{Extent, Panels};
 use crate::plane::{point, Area, Point};
 use crate::scene::{Counts, Scene};
 use crate::submeshes::{points, submeshes, POINT};
 use crate::svg::Svg;
 
-/// Panels that the page shows.
-const PANELS: usize = 24;
-/// The height of a note below the panels.
+/// Where the words are that stand for the panels of an empty list, below the top.
 const NOTE: f64 = 16.0;
 
 /// Draws the panels, and answers where they end.
 pub fn draw(svg: &mut Svg, area: Area, scene: &Scene, counts: &Counts) -> f64 {
-    let shown = (counts.meshes as usize).min(PANELS);
-    let notes = notes(counts, shown);
-    let height = area.height - NOTE * notes.len() as f64;
-    let extent = Extent::of(points(scene).map(uv));
-    let panels = Panels::new(Area { height, ..area }, shown, extent);
-    for mesh in 0..shown {
-        svg.words(panels.heading(mesh), "", &format!("mesh {mesh}"));
+    if counts.meshes == 0 {
+        let at = point(area.left, area.top + NOTE);
+        svg.words(at, "", "no meshes");
+        return at.y;
+    }
+    let meshes = counts.meshes as usize;
+    let panels = Panels::new(area, meshes, Extent::of(points(scene).map(uv)));
+    for mesh in 0..meshes {
+        svg.words(panels.heading(mesh), "", eyes::of_mesh(mesh, counts.meshes));
         axes::unit_square(svg, &panels.view(mesh));
     }
-    for submesh in submeshes(scene).filter(|submesh| submesh.mesh < shown) {
+    for submesh in submeshes(scene) {
         let view = panels.view(submesh.mesh);
         submesh.draw(svg, view.scale.x, |point| view.at(uv(point)));
     }
-    let mut at = point(area.left, panels.bottom());
-    for note in notes {
-        at.y += NOTE;
-        svg.words(at, "", &note);
-    }
-    at.y
+    panels.bottom()
 }
 
 fn uv([_, _, _, u, v]: [f64; POINT]) -> Point {
     point(u, v)
-}
-
-fn notes(counts: &Counts, shown: usize) -> Vec<String> {
-    let more = counts.meshes - shown as u64;
-    let mut notes = Vec::new();
-    if counts.meshes == 0 {
-        notes.push("no meshes".to_string());
-    }
-    if more > 0 {
-        notes.push(format!("meshes left out: {}", thousands(more)));
-    }
-    notes
 }
 
 #[cfg(test)]
@@ -69,8 +52,7 @@ mod tests {
         }
     }
 
-    /// A mesh with one submesh of this mode.
-    fn drawn(mode: u32, uvs: &[(f32, f32)]) -> String {
+    fn drawn_of(scene: &Scene, meshes: u64) -> String {
         let area = Area {
             left: 0.0,
             top: 0.0,
@@ -78,9 +60,13 @@ mod tests {
             height: 400.0,
         };
         let mut svg = Svg::new("a");
-        let scene = testing::scene(mode, &points(uvs));
-        draw(&mut svg, area, &scene, &counts(1));
+        draw(&mut svg, area, scene, &counts(meshes));
         svg.finish(400.0)
+    }
+
+    /// A mesh with one submesh of this mode.
+    fn drawn(mode: u32, uvs: &[(f32, f32)]) -> String {
+        drawn_of(&testing::scene(mode, &points(uvs)), 1)
     }
 
     #[test]
@@ -90,7 +76,7 @@ mod tests {
             let svg = drawn(mode, &uvs);
             assert_eq!(svg.matches("<path").count(), 1);
             assert_eq!(svg.matches('M').count(), triangles);
-            assert!(!svg.contains("left out"));
+            assert!(svg.contains(">both eyes<") && !svg.contains("no meshes"));
         }
     }
 
@@ -104,8 +90,11 @@ mod tests {
     }
 
     #[test]
-    fn notes_of_what_is_not_drawn() {
-        assert_eq!(notes(&counts(30), PANELS), ["meshes left out: 6"]);
-        assert_eq!(notes(&counts(0), 0), ["no meshes"]);
+    fn a_list_without_meshes_says_so() {
+        let empty = Scene {
+            records: Vec::new(),
+            ..testing::scene(0, &[])
+        };
+        assert!(drawn_of(&empty, 0).contains(">no meshes<"));
     }
 }

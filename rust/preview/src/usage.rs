@@ -12,7 +12,7 @@ KIND is what the payload holds, by name or by number:
 FILE is the payload, as raw bytes.
 
   --out FILE.svg    where the picture goes (beside the payload, with the ending svg)
-  --mesh N          the mesh of a list that is shown from three sides, counted from 0 (0)
+  --mesh N          the mesh of a list that is shown from three sides: 1 is the right eye's (0)
   --rings N         rows of a crop's grid (18)
   --sectors N       columns of a crop's grid (36)
   --cells N         cells along a cube face's side (4)

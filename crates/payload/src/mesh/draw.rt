@@ -212,8 +212,8 @@ pub enum MeshesAnswer {
     Declined(u8),
 }
 
-// Draws a mesh list: 2, then 3, 6, 7, 8 and 17 in payload order, then 12. Unless it answers `Drawn`, the buffers stay
-// as they were.
+// Draws a mesh list: 2, then 3, 6, 7, 8, 17 and 18 in payload order, then 12. Unless it answers `Drawn`, the buffers
+// stay as they were.
 pub fn parse_meshes(
     payload: &[u8],
     numbers: &mut [u16],
@@ -233,7 +233,7 @@ pub fn parse_meshes(
                 & (n.records <= records.len())
             {
                 draw_boxes(payload, numbers, floats);
-                record_boxes(payload, records);
+                record_boxes(payload, n.meshes, records);
                 return MeshesAnswer::Drawn(n);
             }
             MeshesAnswer::Needs {

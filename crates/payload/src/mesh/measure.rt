@@ -241,13 +241,16 @@ fn add_body(s: &[u8], t: Totals, at: usize) -> Totalled
     }
 }
 
-// The totals with those of a box: a mesh box's body is counted, another box is skipped.
+// The totals with those of a box: a mesh box's body is counted, but a third one is refused, and another box is skipped.
 fn add_box(s: &[u8], fourcc: u32, body: usize, end: usize, t: Totals) -> Totalled
     requires { ⌜ (length (now s) ≤ 67108864) × (body ≤ end) × (end ≤ length (now s)) × Room t body ⌝ }
     ensures { λ r. ⌜ totalsSays r ≡ boxTotals (now (s .entry)) fourcc body end t ⌝ }
 {
     if fourcc != MESH {
         return Totalled::Totals(t);
+    }
+    if 2 <= t.meshes {
+        return Totalled::Declined(18);
     }
     add_body(&s[body..end], t, body)
 }
@@ -287,7 +290,7 @@ fn measure_list(s: &[u8]) -> Totalled
     }
 }
 
-// Measures a mesh list: 2, then 3, 6, 7, 8 and 17 in payload order.
+// Measures a mesh list: 2, then 3, 6, 7, 8, 17 and 18 in payload order.
 pub fn measure_meshes(payload: &[u8]) -> Measured
     ensures { λ r. ⌜ measuredSays r
         ≡ limited (now (payload .entry)) (mapped listSize (readMeshes (now (payload .entry)))) ⌝ }

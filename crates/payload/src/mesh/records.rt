@@ -13,16 +13,16 @@ ghost use Prim.Native.Nat.{_+_, _*_, _≤_, _<_};
 ghost use lib.ListN.{length};
 ghost use lib.Seq.{sets};
 ghost use Rattle.payload.specs.MeshRead.{readMesh, readMeshes};
-ghost use Rattle.payload.specs.MeshDrawing.{submeshRecords, pointCount, recordsFrom, drawnRecords};
+ghost use Rattle.payload.specs.MeshDrawing.{submeshRecords, pointCount, recordsFrom, firstEye, drawnRecords};
 ghost use Rattle.payload.specs.Records.{recordWords};
 ghost use Rattle.payload.specs.Internal.{WasRead, SubmeshesThere, submeshesOf, meshRead, boxMeshes, boxRead};
 ghost use Rattle.payload.specs.Internal.{meshesFrom, RecordRoom, afterRecords};
 ghost use Rattle.payload.specs.Lent.{answerFor, buffersAfter, atEntry};
 ghost use Rattle.payload.specs.Meshes.{recordsPlan, recordsSays};
 
-// A submesh's record: its mesh, its texture and mode, its first point among all, and how many points it has.
+// A submesh's record: its eye, its texture and mode, its first point among all, and how many points it has.
 pub struct Record {
-    pub mesh: u32,
+    pub eye: u32,
     pub texture: u32,
     pub mode: u32,
     pub first: u32,
@@ -33,16 +33,16 @@ fn put_record(out: &mut [u32], at: usize, r: Record)
     requires { ⌜ at + 5 ≤ length (now out) ⌝ }
     ensures { λ _. ⌜ now (out .exit) ≡ sets (now (out .entry)) at (recordWords r) ⌝ }
 {
-    out[at] = r.mesh;
+    out[at] = r.eye;
     out[at + 1] = r.texture;
     out[at + 2] = r.mode;
     out[at + 3] = r.first;
     out[at + 4] = r.points;
 }
 
-// The next record's mesh and first point, and where it goes.
+// The next record's eye and first point, and where it goes.
 struct RecordPlace {
-    mesh: u32,
+    eye: u32,
     first: u32,
     at: usize,
 }
@@ -55,9 +55,9 @@ fn fill_records(s: &[u8], all: Submeshes, records: &mut [u32], to: RecordPlace) 
     ensures first { λ r. ⌜ r ≡ to .first + pointCount (submeshesOf (now (s .entry)) all) ⌝ }
     ensures records { λ _. ⌜ now (records .exit)
         ≡ sets (now (records .entry)) (to .at)
-        (submeshRecords (to .mesh) (to .first) (submeshesOf (now (s .entry)) all)) ⌝ }
+        (submeshRecords (to .eye) (to .first) (submeshesOf (now (s .entry)) all)) ⌝ }
 {
-    let mesh = to.mesh;
+    let eye = to.eye;
     let mut left = all;
     let mut first = to.first;
     let mut at = to.at;
@@ -65,7 +65,7 @@ fn fill_records(s: &[u8], all: Submeshes, records: &mut [u32], to: RecordPlace) 
         let next = next_submesh(s, left);
         let points = next.run.count;
         let record = Record {
-            mesh,
+            eye,
             texture: next.texture,
             mode: next.mode,
             first,
@@ -86,12 +86,12 @@ fn record_mesh(s: &[u8], records: &mut [u32], to: RecordPlace) -> RecordPlace
     ensures place { λ r. ⌜ r ≡ afterRecords to (meshRead (now (s .entry)) ∷ []) ⌝ }
     ensures records { λ _. ⌜ now (records .exit)
         ≡ sets (now (records .entry)) (to .at)
-        (recordsFrom (to .mesh) (to .first) (meshRead (now (s .entry)) ∷ [])) ⌝ }
+        (recordsFrom (to .eye) (to .first) (meshRead (now (s .entry)) ∷ [])) ⌝ }
 {
     let h = mesh_head(s);
     let first = fill_records(s, h.submeshes, records, to);
     RecordPlace {
-        mesh: to.mesh + 1,
+        eye: to.eye + 1,
         first,
         at: to.at + 5 * (h.submeshes.left as usize),
     }
@@ -112,7 +112,7 @@ fn record_box(
     ensures place { λ r. ⌜ r ≡ afterRecords to (boxRead (now (s .entry)) fourcc body end) ⌝ }
     ensures records { λ _. ⌜ now (records .exit)
         ≡ sets (now (records .entry)) (to .at)
-        (recordsFrom (to .mesh) (to .first) (boxRead (now (s .entry)) fourcc body end)) ⌝ }
+        (recordsFrom (to .eye) (to .first) (boxRead (now (s .entry)) fourcc body end)) ⌝ }
 {
     if fourcc != MESH {
         return to;
@@ -120,16 +120,27 @@ fn record_box(
     record_mesh(&s[body..end], records, to)
 }
 
-// Stores the records of a list of boxes that is known to be read whole.
-pub(in crate::mesh) fn record_boxes(s: &[u8], records: &mut [u32])
+// The eye of the first of so many meshes: 0 stands for both eyes, where there is no second mesh, and 1 for the left.
+fn first_eye(meshes: usize) -> u32
+    ensures { λ r. ⌜ r ≡ firstEye meshes ⌝ }
+{
+    if meshes == 2 {
+        return 1;
+    }
+    0
+}
+
+// Stores the records of a list of boxes that is known to be read whole, with so many meshes.
+pub(in crate::mesh) fn record_boxes(s: &[u8], meshes: usize, records: &mut [u32])
     requires { ⌜ (length (now s) ≤ 67108864) × WasRead (readMeshes (now s))
-        × (length (drawnRecords (meshesFrom (now s) 0)) ≤ length (now records)) ⌝ }
+        × (length (drawnRecords (meshesFrom (now s) 0)) ≤ length (now records))
+        × (meshes ≡ length (meshesFrom (now s) 0)) ⌝ }
     ensures { λ _. ⌜ now (records .exit)
         ≡ sets (now (records .entry)) 0 (drawnRecords (meshesFrom (now (s .entry)) 0)) ⌝ }
 {
     let mut at: usize = 0;
     let mut to = RecordPlace {
-        mesh: 0,
+        eye: first_eye(meshes),
         first: 0,
         at: 0,
     };
@@ -161,8 +172,8 @@ pub enum RecordsAnswer {
     Declined(u8),
 }
 
-// The records of a mesh list, without its points: 2, then 3, 6, 7, 8 and 17 in payload order, then 12. Unless it
-// answers `Counts`, the buffer stays as it was.
+// The records of a mesh list, without its points: 2, then 3, 6, 7, 8, 17 and 18 in payload order, then 12. Unless
+// it answers `Counts`, the buffer stays as it was.
 pub fn mesh_records(payload: &[u8], records: &mut [u32]) -> RecordsAnswer
     ensures answer { λ r. ⌜ recordsSays r
         ≡ answerFor (recordsPlan (now (payload .entry))) (atEntry (records ∷ [])) ⌝ }
@@ -175,7 +186,7 @@ pub fn mesh_records(payload: &[u8], records: &mut [u32]) -> RecordsAnswer
             if records.len() < n.records {
                 return RecordsAnswer::Needs(n.records);
             }
-            record_boxes(payload, records);
+            record_boxes(payload, n.meshes, records);
             RecordsAnswer::Counts {
                 meshes: n.meshes,
                 submeshes: n.submeshes,

@@ -131,7 +131,7 @@ fn fill_textures(payload: &[u8], out: &mut [u32]) -> Filled
 }
 
 // Puts each texture that occurs in a mesh list and its points into out, two words each, in order of first appearance:
-// 2, then 3, 6, 7, 8 and 17 in payload order, then 12, or how many textures.
+// 2, then 3, 6, 7, 8, 17 and 18 in payload order, then 12, or how many textures.
 pub fn texture_points(payload: &[u8], out: &mut [u32]) -> Filled
     ensures answer { λ r. ⌜ filledSays r
         ≡ answerFor (inItems 2 (texturesFound (now (payload .entry)))) (atEntry (out ∷ [])) ⌝ }

@@ -1,6 +1,6 @@
 //! The calls on mesh lists.
 
-use spell::Part;
+use spell::{overwrite, Part};
 
 use crate::answers::line::{bounded, lent, List, MOST_DRAWN};
 use crate::answers::{one_of, thinned};
@@ -9,15 +9,20 @@ use crate::lent::tables::{lengths, refused_lengths};
 use crate::mesh::damage::{damaged, every_bit, every_count, every_size, every_stray_of, stray_of};
 use crate::mesh::lists::{due, measured, parsed, recorded, Due};
 use crate::mesh::payloads::{self, lone, m1, sized};
+use crate::mesh::plans::{every_plan_of, planned_list, Planned, PLANNED};
+use crate::mesh::thirds::every_number;
 use crate::mesh::words::{every_list, NOT_FINITE};
-use crate::scene::list_faults::{faulty_list, LIST_FAULTS};
 
 /// Random lists, and damaged copies of each.
 const RANDOM: usize = 12;
 const COPIES: usize = 2;
-/// The longest random list, and the longest list of three meshes.
+/// The longest random list, and the longest list by a plan.
 const LONG: usize = 180;
-const LONG_FAULTY: usize = 300;
+const LONG_PLANNED: usize = 250;
+/// Calls that do not take all lists with a fault take every so manieth: no even number, as plans go by eights.
+pub const STEP: usize = 5;
+/// Skipped boxes around each of up to five meshes.
+const SKIPPED: [usize; 3] = [0, 1, 9];
 /// Pool words, vertices and points. Some fill the buffers, some need longer ones.
 const LARGE: [(usize, usize, &[usize]); 8] = [
     (257, 3, &[4, 1]),
@@ -46,12 +51,18 @@ pub fn add(list: &mut List, random: &mut Random) {
         records(list, &payload, &due, exact[2]);
         measure(list, &payload, &due);
     }
-    let faulty = faults_of_m1().into_iter().chain(damages(random));
-    for (number, payload) in faulty.enumerate() {
+    for payload in thirds(random) {
         let due = due(&payload);
         let lent = every_lent(random, &due);
         parse(list, &payload, &due, one_of(random, &lent));
-        match number % 2 {
+        records(list, &payload, &due, one_of(random, &lent)[2]);
+        measure(list, &payload, &due);
+    }
+    for payload in faults_of_m1().into_iter().chain(damages(random)) {
+        let due = due(&payload);
+        let lent = every_lent(random, &due);
+        parse(list, &payload, &due, one_of(random, &lent));
+        match random.below(2) {
             0 => records(list, &payload, &due, one_of(random, &lent)[2]),
             _ => measure(list, &payload, &due),
         }
@@ -86,13 +97,13 @@ pub fn faults_of_m1() -> Vec<Vec<u8>> {
     payloads.extend(thinned(11, |each| every_bit(bytes, each)));
     payloads.extend(thinned(4, |each| every_size(&list, each)));
     payloads.extend(thinned(2, |each| every_stray_of(&list, each)));
-    payloads.extend(thinned(7, |each| {
+    payloads.extend(thinned(20, |each| {
         every_list(&m1(), NOT_FINITE[0], |payload, _| each(payload))
     }));
     payloads
 }
 
-/// Damaged copies of random lists, and lists with a fault in each of three meshes or in some.
+/// Damaged copies of random lists, and lists of two boxes by every plan.
 pub fn damages(random: &mut Random) -> Vec<Vec<u8>> {
     let mut payloads = Vec::new();
     for _ in 0..RANDOM {
@@ -102,13 +113,43 @@ pub fn damages(random: &mut Random) -> Vec<Vec<u8>> {
         payloads.push(stray_of(random, &list));
         payloads.push(spelled.bytes);
     }
-    for first in LIST_FAULTS {
-        for second in LIST_FAULTS {
-            let third = random.pick(&LIST_FAULTS);
-            payloads.push(small_faulty(random, [first, second, third]));
+    payloads.extend(every_plan_of(2).map(|plan| small_planned(random, &plan)));
+    payloads
+}
+
+/// Lists around a third mesh: every box in its place, behind it and before it, with and without boxes that are skipped;
+/// its size at its limits; and up to five meshes among skipped boxes.
+pub fn thirds(random: &mut Random) -> Vec<Vec<u8>> {
+    let (mesh, skipped) = (Planned::Mesh(None), Planned::Skipped(None));
+    let mut payloads = Vec::new();
+    for planned in PLANNED {
+        for plan in [
+            &[mesh, mesh, planned][..],
+            &[skipped, mesh, skipped, mesh, skipped, planned],
+            &[mesh, mesh, mesh, planned],
+            &[mesh, planned, mesh, mesh],
+        ] {
+            payloads.push(small_planned(random, plan));
         }
     }
+    payloads.extend(sizes_of_third());
+    every_number(&m1(), &SKIPPED, |payload, _| {
+        payloads.push(payload.to_vec())
+    });
     payloads
+}
+
+/// The last of three times m1 with sizes below, at and above their limits.
+fn sizes_of_third() -> Vec<Vec<u8>> {
+    let three = lone(&m1()).repeat(3);
+    let size = (three.len() / 3) as u32;
+    let sizes = [0, 1, 7, 8, 9, size, size + 1, u32::MAX];
+    let with_size = |other| {
+        let mut three = three.clone();
+        overwrite(&mut three, 8 * 2 * size as usize, other);
+        three
+    };
+    sizes.map(with_size).into()
 }
 
 fn small(random: &mut Random) -> payloads::List {
@@ -120,10 +161,10 @@ fn small(random: &mut Random) -> payloads::List {
     }
 }
 
-fn small_faulty(random: &mut Random, faults: [Option<i64>; 3]) -> Vec<u8> {
+fn small_planned(random: &mut Random, plan: &[Planned]) -> Vec<u8> {
     loop {
-        let payload = faulty_list(random, faults);
-        if payload.len() <= LONG_FAULTY {
+        let payload = planned_list(random, plan);
+        if payload.len() <= LONG_PLANNED {
             return payload;
         }
     }

@@ -24,8 +24,6 @@ const FAULTS: usize = 50;
 const RANDOM: usize = 2;
 /// The longest payload that is read as every kind.
 const LONG: usize = 100;
-/// Every so manieth of the faulty lists is taken.
-const LISTS: usize = 5;
 
 pub fn add(list: &mut List, random: &mut Random) {
     crops(list, random);
@@ -86,9 +84,14 @@ fn cubes(list: &mut List, random: &mut Random) {
 }
 
 fn mesh_lists(list: &mut List, random: &mut Random) {
-    let mut payloads = [lists::wholes(random), lists::large(random)].concat();
+    let mut payloads = [
+        lists::wholes(random),
+        lists::large(random),
+        lists::thirds(random),
+    ]
+    .concat();
     let faulty = [lists::faults_of_m1(), lists::damages(random)].concat();
-    payloads.extend(faulty.into_iter().step_by(LISTS));
+    payloads.extend(faulty.into_iter().step_by(lists::STEP));
     for payload in payloads {
         let given = any_given(random);
         on_one(list, random, call(2, &payload, given));

@@ -1,7 +1,7 @@
 //! The points of each texture of a mesh list.
 
 use crate::answers::line::{lent, List};
-use crate::answers::lists::{damages, faults_of_m1, wholes};
+use crate::answers::lists::{damages, faults_of_m1, thirds, wholes, STEP};
 use crate::answers::one_of;
 use crate::inputs::random::Random;
 use crate::mesh::payloads;
@@ -9,8 +9,6 @@ use crate::mesh::textures::{all_textures, answer, due, few_textures};
 
 /// Random lists in which textures occur again.
 const RANDOM: usize = 30;
-/// Of the lists with a fault every so manieth.
-const STEP: usize = 4;
 /// The longest list: one with every texture once.
 const LONG: usize = 2048;
 /// As many words as all textures take.
@@ -24,6 +22,7 @@ pub fn add(list: &mut List, random: &mut Random) {
             .filter(|list| list.len() <= LONG),
     );
     all.extend((0..RANDOM).map(|_| again(random)));
+    all.extend(thirds(random));
     all.extend(faults_of_m1().into_iter().step_by(STEP));
     all.extend(damages(random).into_iter().step_by(STEP));
     for payload in all {

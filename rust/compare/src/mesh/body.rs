@@ -2,7 +2,7 @@
 
 use std::slice::from_ref;
 
-use reference::mesh;
+use reference::mesh::{self, Projection};
 use spell::{Spelled, Tables};
 
 use crate::inputs::payloads::{shown, LONGEST};
@@ -167,7 +167,9 @@ pub fn agrees(body: &[u8], model: &Result<Mesh, i64>) -> bool {
     match (mesh::parse_mesh(body), model) {
         (Some(rust), Ok(model)) => {
             let numbers = model.coordinates.clone();
-            Drawing::of_rust(from_ref(&rust), numbers) == Drawing::of_model(from_ref(model))
+            let meshes = vec![rust];
+            let rust = Drawing::of_rust(&Projection { meshes }, numbers);
+            rust == Drawing::of_model(from_ref(model))
         }
         (None, Err(_)) => true,
         _ => false,

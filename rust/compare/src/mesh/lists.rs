@@ -1,7 +1,7 @@
 //! Mesh lists: drawn, measured, and their records alone.
 
-use reference::mesh;
-use spell::{Part, Spelled};
+use reference::mesh::{self, Projection};
+use spell::{Mesh, Part, Spelled};
 
 use crate::inputs::payloads::shown;
 use crate::inputs::random::Random;
@@ -10,15 +10,21 @@ use crate::lent::tables::{self, lengths, refused_lengths, Table};
 use crate::mesh::damage::{damaged, every_byte, every_size, every_stray_of, stray_of};
 use crate::mesh::drawing::Drawing;
 use crate::mesh::model;
-use crate::mesh::payloads::{large_counts, lone, longest_of, mesh, sized, List};
-use crate::mesh::words::{every_list, m1_and_infinite, spoil_list, NOT_FINITE};
+use crate::mesh::payloads::{large_counts, lone, mesh, sized, List};
+use crate::mesh::plans::{every_longest, every_plan, first_fault, planned_list};
+use crate::mesh::thirds::{every_number, every_third, SKIPPED};
+use crate::mesh::words::{every_list, spoil_list, NOT_FINITE};
 use crate::options::Options;
-use crate::scene::list_faults::{every_choice, faulty_list};
+use crate::refusals::THIRD_MESH;
 use crate::tally::Tally;
 
 const NAME: &str = "meshes";
 /// So many lists are damaged in every place.
 const LISTS: usize = 60;
+/// So many meshes are the third of a list.
+const THIRDS: usize = 12;
+/// So many lists are made by each plan.
+const PLANS: usize = 8;
 /// So many lists are taken with some damaged copies.
 const RANDOM: usize = 32_000;
 /// With `--long` there are so many times as many.
@@ -44,13 +50,19 @@ pub fn run(options: &Options) -> Vec<Tally> {
     let times = if options.long { LONGER } else { 1 };
     for _ in 0..LISTS * times {
         lists.every_damage();
-        lists.faults();
+        lists.words();
+    }
+    for _ in 0..THIRDS * times {
+        lists.thirds();
+    }
+    for _ in 0..PLANS * times {
+        lists.plans();
     }
     for _ in 0..RANDOM * times {
         lists.random_damage();
     }
     lists.large();
-    lists.longest();
+    every_longest(|payload, first| lists.check_order(payload, first));
     let Lists {
         model,
         parsed,
@@ -76,11 +88,14 @@ impl Lists {
                 NAME,
                 "against mesh::parse_meshes; refusals and coordinate numbers against the model",
             ),
-            measured: tally("meshes measured", "the same counts, lengths and refusals"),
+            measured: tally(
+                "meshes measured",
+                "the same counts, lengths and refusals, also by the viewer's call",
+            ),
             records: tally("meshes records", "the same counts, records and refusals"),
             beyond: tally(
                 "meshes beyond the Rust",
-                "more than 65536 submeshes or 67108864 bytes, or a word that is not finite, against the model",
+                "more than 65536 submeshes or 67108864 bytes, a word not finite or a third mesh, against the model",
             ),
             order: tally(
                 "meshes order",
@@ -89,11 +104,13 @@ impl Lists {
         }
     }
 
-    /// Of a list whose words are finite, and with one that is not.
+    /// Of a list without a fault, of the same with a word that is not finite, and of one with a third mesh.
     fn every_damage(&mut self) {
         let mut list = List::random(&mut self.random);
         self.every_damage_of(&list);
         spoil_list(&mut self.random, &mut list);
+        self.every_damage_of(&list);
+        let list = List::crowded(&mut self.random);
         self.every_damage_of(&list);
     }
 
@@ -105,16 +122,33 @@ impl Lists {
         every_stray_of(list, |payload| self.check(payload));
     }
 
-    /// Faults in one mesh or in several: that of the first one counts.
-    fn faults(&mut self) {
-        let mesh = mesh(&mut self.random);
-        let bad = self.random.pick(&NOT_FINITE);
+    fn words(&mut self) {
+        let (mesh, bad) = self.mesh_and_bad();
         every_list(&mesh, bad, |payload, first| {
             self.check_order(payload, first)
         });
-        for faults in every_choice() {
-            let payload = faulty_list(&mut self.random, faults);
-            self.check_order(&payload, faults.into_iter().find_map(|fault| fault));
+    }
+
+    fn thirds(&mut self) {
+        let (mesh, bad) = self.mesh_and_bad();
+        every_third(&mesh, bad, |payload, first| {
+            self.check_order(payload, first)
+        });
+        every_number(&mesh, &SKIPPED, |payload, first| {
+            self.check_order(payload, first)
+        });
+    }
+
+    /// A mesh, and a word that is not finite.
+    fn mesh_and_bad(&mut self) -> (Mesh, u32) {
+        let mesh = mesh(&mut self.random);
+        (mesh, self.random.pick(&NOT_FINITE))
+    }
+
+    fn plans(&mut self) {
+        for plan in every_plan() {
+            let payload = planned_list(&mut self.random, &plan);
+            self.check_order(&payload, first_fault(&plan));
         }
     }
 
@@ -136,6 +170,9 @@ impl Lists {
         }
         let payload = stray_of(&mut self.random, &list);
         self.check(&payload);
+        let crowded = List::crowded(&mut self.random).spelled();
+        let payload = damaged(&mut self.random, &crowded);
+        self.check(&payload);
     }
 
     fn large(&mut self) {
@@ -156,19 +193,7 @@ impl Lists {
         let parts = (0..MANY_MESHES).map(|_| Part::Mesh(mesh(&mut self.random)));
         let parts = parts.collect();
         let rest = Vec::new();
-        self.check(&List { parts, rest }.spelled().bytes);
-    }
-
-    /// As long as a payload may be, and one byte longer: with a long box, and with a long mesh.
-    fn longest(&mut self) {
-        for mesh in m1_and_infinite() {
-            self.check(&lone(&mesh));
-            for mut payload in longest_of(&mesh) {
-                self.check(&payload);
-                payload.push(0);
-                self.check(&payload);
-            }
-        }
+        self.check_order(&List { parts, rest }.spelled().bytes, Some(THIRD_MESH));
     }
 
     fn check(&mut self, payload: &[u8]) {
@@ -209,7 +234,7 @@ pub fn rust(payload: &[u8], model: &Due) -> Due {
         Err(refusal) => (Vec::new(), *refusal),
     };
     let meshes = mesh::parse_meshes(payload).ok_or(refusal)?;
-    Ok(Drawing::of_rust(&meshes, numbers))
+    Ok(Drawing::of_rust(&Projection { meshes }, numbers))
 }
 
 fn parse(tally: &mut Tally, random: &mut Random, payload: &[u8], due: &Due) {
@@ -273,6 +298,18 @@ fn measure(tally: &mut Tally, payload: &[u8], due: &Due) {
         hoodsorrel::raw::measure_meshes(payload, words)
     });
     tables::check(tally, replies, &[], || shown(payload));
+    let viewer = hoodsorrel::raw::viewer_measure_meshes(payload);
+    tally.check(viewer, points_or_refusal(due), || shown(payload));
+}
+
+fn points_or_refusal(due: &Due) -> i64 {
+    match due {
+        Ok(drawing) => {
+            let [.., points] = drawing.counts();
+            points as i64
+        }
+        Err(refusal) => -refusal,
+    }
 }
 
 fn records(tally: &mut Tally, random: &mut Random, payload: &[u8], due: &Due) {

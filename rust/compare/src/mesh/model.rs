@@ -3,7 +3,7 @@
 use spell::{field_width, FIELDS, MESH};
 
 use crate::inputs::payloads::LONGEST;
-use crate::refusals::{BAD_COUNT, BAD_SIZE, BAD_WORD, SHORT, STRAY, TOO_LONG};
+use crate::refusals::{BAD_COUNT, BAD_SIZE, BAD_WORD, SHORT, STRAY, THIRD_MESH, TOO_LONG};
 
 pub const MOST_COORDINATES: u32 = 10_000;
 pub const MOST_VERTICES: u32 = 32_000;
@@ -23,6 +23,8 @@ pub struct Mesh {
     pub submeshes: Vec<Submesh>,
 }
 
+/// One mesh for both eyes, or one for each.
+const MOST_MESHES: usize = 2;
 /// The Rust reserves memory for its submeshes first, and is not asked to read more than these.
 pub const MOST_SUBMESHES: u32 = 65_536;
 
@@ -34,11 +36,11 @@ pub struct Model<T> {
 
 impl<T> Model<T> {
     /// Whether the Rust is not asked to read these bytes: it knows no longest payload, and takes words that are not
-    /// finite.
+    /// finite and any number of meshes.
     pub fn beyond_rust(&self, bytes: &[u8]) -> bool {
         self.most_submeshes > MOST_SUBMESHES
             || bytes.len() > LONGEST
-            || matches!(self.reading, Err(BAD_WORD))
+            || matches!(self.reading, Err(BAD_WORD | THIRD_MESH))
     }
 }
 
@@ -96,6 +98,9 @@ fn read_list(mut payload: &[u8], most_submeshes: &mut u32) -> Result<Vec<Mesh>, 
             return Err(BAD_SIZE);
         }
         if payload[4..HEADER] == MESH {
+            if meshes.len() == MOST_MESHES {
+                return Err(THIRD_MESH);
+            }
             meshes.push(read_mesh(&payload[HEADER..size], most_submeshes)?);
         }
         payload = &payload[size..];

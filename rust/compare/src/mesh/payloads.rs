@@ -35,21 +35,39 @@ impl List {
         spelled
     }
 
+    /// Up to four boxes, of which at most two are meshes.
     pub fn random(random: &mut Random) -> List {
         let boxes = random.pick(&[0, 1, 1, 1, 1, 1, 2, 2, 2, 3, 4]);
-        let parts = (0..boxes).map(|_| random_part(random)).collect();
-        let n = random.pick(&[0, 0, 1, 2, 3, 4, 5, 6, 7]);
-        List {
-            parts,
-            rest: free_bytes(random, n),
+        let mut parts = Vec::new();
+        let mut meshes = 0;
+        for _ in 0..boxes {
+            if meshes < 2 && random.below(5) > 0 {
+                parts.push(Part::Mesh(mesh(random)));
+                meshes += 1;
+            } else {
+                parts.push(skipped(random));
+            }
         }
+        let n = random.pick(&[0, 0, 1, 2, 3, 4, 5, 6, 7]);
+        let rest = free_bytes(random, n);
+        List { parts, rest }
+    }
+
+    /// The same, but with a third mesh.
+    pub fn crowded(random: &mut Random) -> List {
+        let mut list = List::random(random);
+        let is_mesh = |part: &&Part| matches!(part, Part::Mesh(_));
+        let meshes = list.parts.iter().filter(is_mesh).count();
+        for _ in meshes..3 {
+            let place = random.below(list.parts.len() + 1);
+            list.parts.insert(place, Part::Mesh(mesh(random)));
+        }
+        list
     }
 }
 
-fn random_part(random: &mut Random) -> Part {
-    if random.below(5) > 0 {
-        return Part::Mesh(mesh(random));
-    }
+/// A box that is skipped. Its body is that of a mesh, or any bytes.
+pub fn skipped(random: &mut Random) -> Part {
     let box_type = random.pick(&OTHERS);
     let body = match random.below(3) {
         0 => spell::body(&mesh(random)).bytes,
@@ -159,18 +177,29 @@ pub fn m1() -> Mesh {
     }
 }
 
-/// Lists that are as long as a payload may be: the mesh and a box to be skipped, and the mesh in a box of all bytes.
-pub fn longest_of(mesh: &Mesh) -> [Vec<u8>; 2] {
-    let mut boxed = lone(mesh);
-    boxed.extend(((LONGEST - boxed.len()) as u32).to_be_bytes());
-    boxed.extend(b"free");
-    let mut whole = (LONGEST as u32).to_be_bytes().to_vec();
-    whole.extend(MESH);
-    whole.extend(spell::body(mesh).bytes);
-    [boxed, whole].map(|mut list| {
+/// Lists that are as long as a payload may be. They begin with these bytes, then comes the mesh: with a box to be
+/// skipped behind it, and in a box of all bytes that are left.
+pub fn longest_of(before: &[u8], mesh: &Mesh) -> [Vec<u8>; 2] {
+    let boxed = [before, &lone(mesh)].concat();
+    [
+        [&boxed[..], &longest_header(&boxed, *b"free")].concat(),
+        [
+            before,
+            &longest_header(before, MESH),
+            &spell::body(mesh).bytes,
+        ]
+        .concat(),
+    ]
+    .map(|mut list| {
         list.resize(LONGEST, 0);
         list
     })
+}
+
+/// The header of a box that takes all bytes that a payload may have behind these.
+fn longest_header(before: &[u8], box_type: [u8; 4]) -> Vec<u8> {
+    let size = (LONGEST - before.len()) as u32;
+    [size.to_be_bytes(), box_type].concat()
 }
 
 /// Counts of coordinates, of vertices and of the points of each submesh.

@@ -8,15 +8,18 @@ use crate::lent::answer::Answer;
 use crate::lent::fill::{before, check_exactly, lengths};
 use crate::mesh::damage::{damaged, stray_of};
 use crate::mesh::lists::{due as drawing_of, LONGER};
-use crate::mesh::payloads::{self, large_counts, lone, longest_of, m1, sized, List};
-use crate::mesh::words::{every_list, m1_and_infinite, NOT_FINITE};
+use crate::mesh::payloads::{self, large_counts, lone, sized, List};
+use crate::mesh::plans::{every_longest, every_plan, planned_list};
+use crate::mesh::thirds::{every_number, every_third, SKIPPED};
+use crate::mesh::words::{every_list, NOT_FINITE};
 use crate::options::Options;
-use crate::scene::list_faults::{every_choice, faulty_list};
 use crate::tally::Tally;
 
 const NAME: &str = "textures";
-/// So many lists with each choice of faults.
-const FAULTY: usize = 40;
+/// So many meshes with words at the limits of what is finite.
+const WORDS: usize = 40;
+/// So many meshes are the third of a list, and so many lists are made by each plan.
+const THIRDS: usize = 4;
 const RANDOM: usize = 24_000;
 /// Words of a record: its texture is the second, its points are the last.
 const RECORD: usize = 5;
@@ -133,31 +136,26 @@ fn made(options: &Options, random: &mut Random) -> Tally {
         submesh.texture = texture;
     }
     check(&mut tally, &lone(&mesh));
-    // A byte more than a payload may have comes before a word that is not finite and a point that is not there.
-    let mut stray = m1();
-    stray.submeshes[0].points.push(3);
-    let [whole, infinite] = m1_and_infinite();
-    for mesh in [whole, infinite, stray] {
-        for mut payload in longest_of(&mesh) {
-            check(&mut tally, &payload);
-            payload.push(0);
-            check(&mut tally, &payload);
-        }
-    }
+    every_longest(|payload, _| check(&mut tally, payload));
     tally
 }
 
-/// Faults in one mesh or in several: that of the first one counts.
+/// Faults in one box or in several: that of the first one counts.
 fn faults(options: &Options, random: &mut Random, times: usize) -> Tally {
     let what =
-        "lists of three meshes, every fault in each of them; words at the limits of what is finite";
+        "lists of up to four boxes by plan, third meshes, words at the limits of what is finite";
     let mut tally = Tally::new(options, "textures faults", what);
-    for _ in 0..FAULTY * times {
-        for faults in every_choice() {
-            check(&mut tally, &faulty_list(random, faults));
-        }
+    for _ in 0..WORDS * times {
         let (mesh, bad) = (payloads::mesh(random), random.pick(&NOT_FINITE));
         every_list(&mesh, bad, |payload, _| check(&mut tally, payload));
+    }
+    for _ in 0..THIRDS * times {
+        let (mesh, bad) = (payloads::mesh(random), random.pick(&NOT_FINITE));
+        every_third(&mesh, bad, |payload, _| check(&mut tally, payload));
+        every_number(&mesh, &SKIPPED, |payload, _| check(&mut tally, payload));
+        for plan in every_plan() {
+            check(&mut tally, &planned_list(random, &plan));
+        }
     }
     tally
 }
@@ -172,6 +170,8 @@ fn lists(options: &Options, random: &mut Random, times: usize) -> Tally {
         check(&mut tally, &spelled.bytes);
         check(&mut tally, &damaged(random, &spelled));
         check(&mut tally, &stray_of(random, &list));
+        let crowded = List::crowded(random).spelled();
+        check(&mut tally, &damaged(random, &crowded));
     }
     tally
 }

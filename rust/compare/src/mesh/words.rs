@@ -5,7 +5,7 @@ use spell::{Mesh, Part, FIELDS, MESH};
 use crate::inputs::random::Random;
 use crate::mesh::damage::{every_bad_count, every_cut, every_stray};
 use crate::mesh::payloads::{m1, List};
-use crate::refusals::{BAD_COUNT, BAD_WORD, SHORT};
+use crate::refusals::{BAD_COUNT, BAD_WORD, SHORT, THIRD_MESH};
 
 /// Zeros, and the least and the largest subnormal and normal words.
 pub const FINITE: [u32; 10] = [
@@ -119,16 +119,21 @@ fn every_fault(mesh: &Mesh, place: usize, mut each: impl FnMut(&[u8], i64)) {
     every_stray(mesh, |mesh| each(&spell::body(mesh).bytes, BAD_WORD));
 }
 
-/// The same bodies in lists: between two meshes, and before them in a box that is skipped.
+/// The same bodies in lists, and before the meshes in a box that is skipped: as the first and as the second of two
+/// meshes, and between two, of which the last is one too many where the body has no fault.
 pub fn every_list(mesh: &Mesh, bad: u32, mut each: impl FnMut(&[u8], Option<i64>)) {
     every_body(mesh, bad, |body, refusal| {
-        let parts = vec![
-            Part::Other(*b"free", body.to_vec()),
-            Part::Mesh(m1()),
-            Part::Other(MESH, body.to_vec()),
-            Part::Mesh(m1()),
-        ];
-        let rest = Vec::new();
-        each(&List { parts, rest }.spelled().bytes, refusal);
+        let boxed = |box_type| Part::Other(box_type, body.to_vec());
+        let whole = || Part::Mesh(m1());
+        let too_many = refusal.or(Some(THIRD_MESH));
+        for (meshes, refusal) in [
+            (vec![boxed(MESH), whole()], refusal),
+            (vec![whole(), boxed(MESH)], refusal),
+            (vec![whole(), boxed(MESH), whole()], too_many),
+        ] {
+            let parts = [vec![boxed(*b"free")], meshes].concat();
+            let rest = Vec::new();
+            each(&List { parts, rest }.spelled().bytes, refusal);
+        }
     });
 }

@@ -8,11 +8,11 @@ use crate::crops::equi::{self, Fields};
 use crate::inputs::payloads::{shown, LONGEST};
 use crate::inputs::random::Random;
 use crate::lent::tables::refused_lengths;
+use crate::mesh::plans::{every_plan, first_fault, planned_list, Planned};
 use crate::options::Options;
 use crate::refusals;
 use crate::scene::calls::Calls;
 use crate::scene::crops::{UNUSABLE, USABLE};
-use crate::scene::list_faults::{every_choice, faulty_list};
 use crate::scene::model::{due, Call, Due};
 use crate::scene::numbers::{
     any_given, small_given, FINITE_RADII, OTHER_KINDS, RADII, TOO_LARGE_GRIDS,
@@ -22,6 +22,8 @@ use crate::tally::Tally;
 
 /// Calls with each choice of faults.
 const TIMES: usize = 50;
+/// Lists by each plan, with each choice of what is wrong besides.
+const LISTS: usize = 6;
 const MOST_FAULTS: u32 = 3;
 /// The padding of the payload of kind 1 that is made wrong.
 const PADDING: u32 = 200;
@@ -113,7 +115,9 @@ pub fn run(options: &Options, times: usize) -> Vec<Tally> {
             let draft = whole_cube(&mut faults.calls.random);
             faults.spoiled(draft, &CUBE_FAULTS, choice);
         }
-        every_choice().for_each(|parts| faults.list(parts));
+    }
+    for _ in 0..LISTS * times {
+        every_plan().for_each(|plan| faults.list(&plan));
     }
     vec![faults.calls.tally, faults.order]
 }
@@ -133,7 +137,7 @@ struct Faults {
 impl Faults {
     fn new(options: &Options) -> Faults {
         let what =
-            "calls with up to three faults at once, and lists of three meshes with up to six";
+            "calls with up to three faults at once, and lists of up to four boxes by plan with up to three more";
         let order = "the model's refusal against the first of the faults in document 01's order";
         Faults {
             calls: Calls::new(options, "scene faults", what),
@@ -147,18 +151,18 @@ impl Faults {
         self.check(draft, first);
     }
 
-    fn list(&mut self, parts: [Option<i64>; 3]) {
+    fn list(&mut self, plan: &[Planned]) {
         for choice in 0..8 {
             let random = &mut self.calls.random;
             let mut draft = Draft {
                 kind: 2,
-                bytes: faulty_list(random, parts),
+                bytes: planned_list(random, plan),
                 too_long: false,
                 given: any_given(random),
                 short_buffers: false,
             };
             let before = spoil(&mut draft, random, &[OTHER_KIND, LONGER], choice);
-            let within = parts.into_iter().find_map(|fault| fault);
+            let within = first_fault(plan);
             let behind = spoil(&mut draft, random, &[SHORT_BUFFERS], choice >> 2);
             self.check(draft, before.or(within).or(behind));
         }
@@ -265,10 +269,13 @@ pub fn lent(random: &mut Random, due: &Due, too_short: bool) -> [usize; 3] {
     }
 }
 
-/// Lengths of which at least one is less than needed.
+/// Lengths of which at least one is less than needed, where any item is.
 fn short(random: &mut Random, needed: [usize; 3]) -> [usize; 3] {
     let mut lent = needed.map(|n| n + random.below(3));
     let used: Vec<usize> = (0..3).filter(|&place| needed[place] > 0).collect();
+    if used.is_empty() {
+        return lent;
+    }
     for _ in 0..1 + random.below(3) {
         let place = random.pick(&used);
         let any = random.below(needed[place]);

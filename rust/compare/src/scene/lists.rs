@@ -5,6 +5,7 @@ use spell::Spelled;
 use crate::inputs::random::Random;
 use crate::mesh::damage::{damaged, every_byte, every_size, every_stray_of, stray_of};
 use crate::mesh::payloads::{lone, m1, mesh, sized, List};
+use crate::mesh::thirds::{every_number, every_third, SKIPPED};
 use crate::mesh::words::{every_list, NOT_FINITE};
 use crate::options::Options;
 use crate::scene::calls::Calls;
@@ -14,19 +15,24 @@ use crate::tally::Tally;
 
 /// So many lists are damaged in every place.
 const LISTS: usize = 24;
+/// So many meshes are the third of a list.
+const THIRDS: usize = 4;
 /// So many lists are taken with some damaged copies.
 const RANDOM: usize = 10_000;
 /// Damaged copies of a random list.
 const COPIES: usize = 2;
 
 pub fn run(options: &Options, times: usize) -> Tally {
-    let what = "against mesh::parse_meshes; refusals, coordinate numbers and words not finite against the model";
+    let what = "against mesh::parse_meshes; refusals, coordinate numbers, bad words and third meshes by the model";
     let mut calls = Calls::new(options, "scene kind 2", what);
     for payload in [Vec::new(), vec![0xFF; 7], lone(&m1())] {
         every(&mut calls, &payload);
     }
     for _ in 0..LISTS * times {
         every_damage(&mut calls);
+    }
+    for _ in 0..THIRDS * times {
+        thirds(&mut calls);
     }
     for _ in 0..RANDOM * times {
         random_damage(&mut calls);
@@ -56,13 +62,25 @@ fn some(calls: &mut Calls, payload: &[u8]) {
 
 fn every_damage(calls: &mut Calls) {
     let list = List::random(&mut calls.random);
+    every_damage_of(calls, &list);
+    let list = List::crowded(&mut calls.random);
+    every_damage_of(calls, &list);
+    let (mesh, bad) = (mesh(&mut calls.random), calls.random.pick(&NOT_FINITE));
+    every_list(&mesh, bad, |payload, _| some(calls, payload));
+}
+
+fn every_damage_of(calls: &mut Calls, list: &List) {
     let spelled = list.spelled();
     every(calls, &spelled.bytes);
     every_byte(&spelled, |payload| some(calls, payload));
-    every_size(&list, |payload| some(calls, payload));
-    every_stray_of(&list, |payload| some(calls, payload));
+    every_size(list, |payload| some(calls, payload));
+    every_stray_of(list, |payload| some(calls, payload));
+}
+
+fn thirds(calls: &mut Calls) {
     let (mesh, bad) = (mesh(&mut calls.random), calls.random.pick(&NOT_FINITE));
-    every_list(&mesh, bad, |payload, _| some(calls, payload));
+    every_third(&mesh, bad, |payload, _| some(calls, payload));
+    every_number(&mesh, &SKIPPED, |payload, _| some(calls, payload));
 }
 
 fn random_damage(calls: &mut Calls) {
@@ -74,6 +92,9 @@ fn random_damage(calls: &mut Calls) {
         some(calls, &payload);
     }
     let payload = stray_of(&mut calls.random, &list);
+    some(calls, &payload);
+    let crowded = List::crowded(&mut calls.random).spelled();
+    let payload = damaged(&mut calls.random, &crowded);
     some(calls, &payload);
 }
 

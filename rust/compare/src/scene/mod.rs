@@ -4,7 +4,6 @@ pub mod calls;
 pub mod crops;
 pub mod cubes;
 pub mod faults;
-pub mod list_faults;
 pub mod lists;
 pub mod model;
 pub mod numbers;
@@ -18,6 +17,7 @@ use crate::crops::cbmp;
 use crate::crops::equi;
 use crate::inputs::payloads::LONGEST;
 use crate::mesh::payloads::{lone, m1};
+use crate::mesh::plans::every_longest;
 use crate::options::Options;
 use crate::tally::Tally;
 use crate::Subject;
@@ -92,5 +92,13 @@ fn longest(options: &Options) -> Tally {
         }
         bytes[..payload.len()].fill(0);
     }
+    every_longest(|payload, _| {
+        let given = small_given(&mut calls.random);
+        calls.some(Call {
+            kind: 2,
+            payload,
+            given,
+        });
+    });
     calls.tally
 }

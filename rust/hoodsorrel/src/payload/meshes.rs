@@ -1,4 +1,4 @@
-//! Kind 2: a list of mesh boxes.
+//! Kind 2: a list of mesh boxes, one for both eyes or one for each. Boxes of other types are skipped.
 
 use crate::answer::{Words, asked, size, word, words};
 use crate::raw;
@@ -8,7 +8,7 @@ use crate::scene::Lengths;
 /// The counts that name a mesh list.
 #[derive(Clone, Copy, Debug, Default, PartialEq, Eq, Hash)]
 pub struct Counts {
-    /// Its meshes.
+    /// Its meshes: two at most.
     pub meshes: usize,
     /// Their submeshes.
     pub submeshes: usize,
@@ -52,12 +52,13 @@ impl MeshListSize {
 ///
 /// let words = [0, 0, 0, 0, 6, 0, 1, 1, 6, 4];
 /// let last = Record::all(&words).last();
-/// assert_eq!(last, Some(Record { mesh: 0, texture: 1, mode: 1, first: 6, points: 4 }));
+/// assert_eq!(last, Some(Record { eye: 0, texture: 1, mode: 1, first: 6, points: 4 }));
 /// ```
 #[derive(Clone, Copy, Debug, Default, PartialEq, Eq, Hash)]
 pub struct Record {
-    /// Its mesh, counted from 0.
-    pub mesh: u32,
+    /// Which eye it is for: 0 is both, where the list has one mesh; where it has two, 1 is the left one, in the first
+    /// mesh, and 2 the right one, in the second. [`Eye`](crate::payload::Eye) counts otherwise.
+    pub eye: u32,
     /// Which texture it samples: up to 255.
     pub texture: u32,
     /// How its points make triangles: up to 255, not judged here.
@@ -74,8 +75,8 @@ impl Record {
         let (records, _) = words.as_chunks();
         records
             .iter()
-            .map(|&[mesh, texture, mode, first, points]| Record {
-                mesh,
+            .map(|&[eye, texture, mode, first, points]| Record {
+                eye,
                 texture,
                 mode,
                 first,
@@ -86,7 +87,7 @@ impl Record {
 
 /// Measures a mesh list.
 ///
-/// Refused with 2, then 3, 6, 7, 8 and 17 in payload order.
+/// Refused with 2, then 3, 6, 7, 8, 17 and 18 in payload order.
 ///
 /// ```
 /// use hoodsorrel::payload::{measure_meshes, Counts, MeshListSize};
@@ -105,6 +106,10 @@ impl Record {
 ///     })
 /// );
 /// assert_eq!(measure_meshes(&payload[..39]), Err(Refusal::BoxSize));
+///
+/// // One such mesh for each eye, and one too many.
+/// assert_eq!(measure_meshes(&payload.repeat(2)).map(|size| size.counts.meshes), Ok(2));
+/// assert_eq!(measure_meshes(&payload.repeat(3)), Err(Refusal::ThirdMesh));
 /// ```
 pub fn measure_meshes(payload: &[u8]) -> Result<MeshListSize, Refusal> {
     words(|words| raw::measure_meshes(payload, words)).map(MeshListSize::from_words)
@@ -113,7 +118,7 @@ pub fn measure_meshes(payload: &[u8]) -> Result<MeshListSize, Refusal> {
 /// Draws a mesh list into three lent buffers: the vertices' coordinate numbers, five floats for each point, and the
 /// records.
 ///
-/// Refused with 2, then 3, 6, 7, 8 and 17 in payload order, then 12. Unless it is accepted the buffers stay as they
+/// Refused with 2, then 3, 6, 7, 8, 17 and 18 in payload order, then 12. Unless it is accepted the buffers stay as they
 /// were. All floats are finite.
 ///
 /// ```
@@ -134,7 +139,7 @@ pub fn measure_meshes(payload: &[u8]) -> Result<MeshListSize, Refusal> {
 /// let size = parse_meshes(&payload, &mut numbers, &mut floats, &mut records)?;
 /// assert_eq!(size.lengths, lengths);
 /// assert_eq!((numbers, floats), ([0; 5], [0.5; 10]));
-/// assert!(Record::all(&records).eq([Record { mesh: 0, texture: 7, mode: 4, first: 0, points: 2 }]));
+/// assert!(Record::all(&records).eq([Record { eye: 0, texture: 7, mode: 4, first: 0, points: 2 }]));
 /// # Ok::<(), Refusal>(())
 /// ```
 pub fn parse_meshes(
@@ -151,7 +156,7 @@ pub fn parse_meshes(
 
 /// The records of a mesh list, without its points, and its counts.
 ///
-/// Refused with 2, then 3, 6, 7, 8 and 17 in payload order, then 12.
+/// Refused with 2, then 3, 6, 7, 8, 17 and 18 in payload order, then 12.
 ///
 /// ```
 /// use hoodsorrel::payload::{mesh_records, Counts};
@@ -167,6 +172,12 @@ pub fn parse_meshes(
 /// let mut records = [0; 5];
 /// assert_eq!(mesh_records(&payload, &mut records), Ok(Counts { meshes: 1, submeshes: 1, points: 2 }));
 /// assert_eq!(records, [0, 7, 4, 0, 2]);
+///
+/// // The same for each eye: the left one's, then the right one's.
+/// let mut records = [0; 10];
+/// assert_eq!(mesh_records(&payload.repeat(2), &mut records), Ok(Counts { meshes: 2, submeshes: 2, points: 4 }));
+/// assert_eq!(records, [1, 7, 4, 0, 2, 2, 7, 4, 2, 2]);
+/// assert_eq!(mesh_records(&payload.repeat(3), &mut []), Err(Refusal::ThirdMesh));
 /// ```
 pub fn mesh_records(payload: &[u8], records: &mut [u32]) -> Result<Counts, Refusal> {
     let [meshes, submeshes, points, ..] =
@@ -196,7 +207,7 @@ impl TexturePoints {
 /// Puts each texture that occurs in a mesh list and the points of its submeshes together into a buffer, two words each,
 /// in order of first appearance, and answers how many textures there are: at most 256, so 512 words are always enough.
 ///
-/// Refused with 2, then 3, 6, 7, 8 and 17 in payload order, then 12.
+/// Refused with 2, then 3, 6, 7, 8, 17 and 18 in payload order, then 12.
 ///
 /// ```
 /// use hoodsorrel::payload::{texture_points, TexturePoints};

@@ -13,7 +13,7 @@ fn says(svg: &str, words: &str) -> bool {
 fn columns_modes_and_totals_are_named() {
     let svg = drawn("mesh", "two_eyes.bin", "named.svg", &[]);
     for words in [
-        "mesh",
+        "eye",
         "texture",
         "mode",
         "first",
@@ -24,6 +24,21 @@ fn columns_modes_and_totals_are_named() {
         "total: 2 meshes, 5 submeshes, 19 points",
     ] {
         assert!(says(&svg, words), "{words}");
+    }
+}
+
+/// By each panel and in each record.
+#[test]
+fn eyes_are_named() {
+    let [one, two] = ["m1", "two_eyes"].map(|name| {
+        let sample = format!("{name}.bin");
+        drawn("mesh", &sample, &format!("eyes-{name}.svg"), &[])
+    });
+    for words in ["both eyes", "0 both", "mesh 0, both eyes, in space"] {
+        assert!(says(&one, words) && !says(&two, words), "{words}");
+    }
+    for words in ["left eye", "right eye", "1 left", "2 right"] {
+        assert!(says(&two, words) && !says(&one, words), "{words}");
     }
 }
 
@@ -90,9 +105,9 @@ fn forty_submeshes_have_forty_colours() {
 #[test]
 fn one_mesh_is_shown_in_space() {
     // its submeshes from three sides, beside the five of both meshes
-    for (mesh, paths) in [("0", 5 + 3 * 3), ("1", 5 + 3 * 2)] {
+    for (mesh, whose, paths) in [("0", "left eye", 5 + 3 * 3), ("1", "right eye", 5 + 3 * 2)] {
         let svg = drawn("mesh", "two_eyes.bin", "space.svg", &["--mesh", mesh]);
-        assert!(says(&svg, &format!("mesh {mesh} in space")));
+        assert!(says(&svg, &format!("mesh {mesh}, {whose}, in space")));
         assert_eq!(svg.matches(" in space<").count(), 1);
         assert_eq!(svg.matches("<path").count(), paths);
         for words in ["front", "top", "side", "x", "y", "z", "least", "greatest"] {

@@ -100,6 +100,8 @@ fn each_refusal_is_the_scene_call_s() {
         ("mesh", "refused_7.bin", &[], 7),
         ("mesh", "refused_17.bin", &[], 17),
         ("mesh", "refused_17_undrawn.bin", &[], 17),
+        ("mesh", "refused_18.bin", &[], 18),
+        ("mesh", "refused_18_unread.bin", &[], 18),
         ("equi", "cube.cbmp", &[], 3),
         ("equi", "crop.equi", &["--rings", "1"], 9),
         ("cbmp", "cube.cbmp", &["--cells", "104"], 9),

@@ -5,11 +5,12 @@ use native.Mathlib.Omega.{arith}
 use lib.ListN.{length}
 use denote.Ref.{now}
 use Rattle.bits.specs.Header.{headerSays}
-use Rattle.payload.specs.MeshRead.{readFrom}
+use Rattle.payload.specs.Internal.{anyFrom}
 use Rattle.payload.proofs.StepLaws.{not-read}
 use Rattle.payload.proofs.BoxReadLaws.{at-declined}
 use Rattle.payload.proofs.TurnLaws.{BoxTurn, box-turn}
 use Rattle.payload.proofs.DrawLaws.{MeshesLeft, meshes-end, meshes-room, meshes-on}
+use Rattle.payload.proofs.MeshTheorems.{any-was}
 use borrow.Author.Needs.{needs}
 use Rattle.payload.proofs.mesh.draw.draw_boxes.Statement.{statement}
 use Rattle.payload.proofs.mesh.draw.draw_boxes.Tie as tie
@@ -23,7 +24,7 @@ abbrev μ-loop : tie.MeasureT-loop
 loop-holds : tie.Need-loop-holds Inv-loop μ-loop
 loop-holds c =
     let a = c .before .before .before in
-    record { numbers = refl; floats = refl; read = a .pre .0 .1; room = record { numbers = omega (arith, a .pre .1 .0); floats = omega (arith, a .pre .1 .1) }; long = refl; long-2 = refl }
+    record { numbers = refl; floats = refl; read = any-was _ (a .pre .0 .1); room = record { numbers = omega (arith, a .pre .1 .0); floats = omega (arith, a .pre .1 .1) }; long = refl; long-2 = refl }
 
 box-header-requires : tie.Need-box-header-requires Inv-loop μ-loop
 box-header-requires c κs = search needs
@@ -56,7 +57,7 @@ returns-2 c =
     let b = c .before .before in
     let l = b .before .loop in
     let s = now (b .before .before .before .before .before .args .s) in
-    absurd (not-read (readFrom s (l .at)) 6 (at-declined s (l .at) 6 (sym (b .box-header .ensures) ∙ ap headerSays (c .enum-told2 .given .1))) (l .inv .read))
+    absurd (not-read (anyFrom s (l .at)) 6 (at-declined s (l .at) 6 (sym (b .box-header .ensures) ∙ ap headerSays (c .enum-told2 .given .1))) (l .inv .read))
 
 enum-known-fourcc : tie.Need-enum-known-fourcc Inv-loop μ-loop
 enum-known-fourcc c = search needs

@@ -10,7 +10,7 @@ use Rattle.payload.specs.Meshes.{listSize, measuredSays, drawnMeshes, me
 use Rattle.payload.specs.Internal.{meshesFrom}
 use Rattle.payload.specs.declared.mesh.measure.MeshListSize.{MeshListSize}
 use Rattle.payload.proofs.LentLaws.{Room, refused, enough, too-short, all-stored}
-use Rattle.payload.proofs.TurnLaws.{Listed, listed, not-listed}
+use Rattle.payload.proofs.TurnLaws.{Listed, listed, not-listed, listed-meshes}
 use borrow.Author.Needs.{needs}
 use Rattle.payload.proofs.mesh.draw.parse_meshes.Statement.{statement}
 use Rattle.payload.proofs.mesh.draw.parse_meshes.Tie as tie
@@ -71,7 +71,7 @@ record-boxes-requires : tie.Need-record-boxes-requires
 record-boxes-requires c κs =
     let t = c .before .before .before .before .before .before .before .before in
     let L = told (measured t) in
-    (L .short, L .read, room t .1 .1 .0)
+    (L .short, L .read, room t .1 .1 .0, listed-meshes L)
 
 same-length : tie.Need-same-length
 same-length c = search needs

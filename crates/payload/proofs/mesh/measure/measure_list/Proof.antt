@@ -7,14 +7,15 @@ use Rattle.bits.specs.Verdict.{accepted, mapped}
 use Rattle.bits.specs.Header.{box, headerAt, headerSays}
 use Rattle.payload.specs.MeshRead.{readFrom, readMeshes}
 use Rattle.payload.specs.Internal.{noTotals, totalsOf, totalsSays, Room}
-use Rattle.payload.proofs.BoxReadLaws.{at-end, at-declined, header-value}
-use Rattle.payload.proofs.MeasureLaws.{room-on, measure-declined, measure-on, measure-room}
+use Rattle.payload.proofs.BoxReadLaws.{more-end, more-declined, header-value}
+use Rattle.payload.proofs.MeasureLaws.{moreAfter, room-on, measure-declined, measure-on, measure-room}
 use borrow.Author.Needs.{needs}
 use Rattle.payload.proofs.mesh.measure.measure_list.Statement.{statement}
 use Rattle.payload.proofs.mesh.measure.measure_list.Tie as tie
 
 abbrev Inv-loop : tie.InvT-loop
-Inv-loop s at₀ t₀ at t = (mapped (totalsOf noTotals) (readMeshes s) ≡ mapped (totalsOf t) (readFrom s at)) × Room t at
+Inv-loop s at₀ t₀ at t =
+    (mapped (totalsOf noTotals) (readMeshes s) ≡ mapped (totalsOf t) (readFrom s (moreAfter t) at)) × Room t at
 
 abbrev μ-loop : tie.MeasureT-loop
 μ-loop s at₀ t₀ at t = length s - at
@@ -32,7 +33,7 @@ returns : tie.Need-returns Inv-loop μ-loop
 returns c =
     let b = c .before .before in
     let l = b .before .loop in
-    sym (l .inv .0 ∙ ap (mapped (totalsOf (l .t))) (at-end (b .before .before .before .args .s .now) (l .at) (sym (b .box-header .ensures) ∙ ap headerSays (c .enum-told .given .1))))
+    sym (l .inv .0 ∙ ap (mapped (totalsOf (l .t))) (more-end (b .before .before .before .args .s .now) (moreAfter (l .t)) (l .at) (sym (b .box-header .ensures) ∙ ap headerSays (c .enum-told .given .1))))
 
 enum-told-2 : tie.Need-enum-told-2 Inv-loop μ-loop
 enum-told-2 c = search needs
@@ -41,7 +42,7 @@ returns-2 : tie.Need-returns-2 Inv-loop μ-loop
 returns-2 c =
     let b = c .before .before in
     let l = b .before .loop in
-    sym (l .inv .0 ∙ ap (mapped (totalsOf (l .t))) (at-declined (b .before .before .before .args .s .now) (l .at) 6 (sym (b .box-header .ensures) ∙ ap headerSays (c .enum-told2 .given .1))))
+    sym (l .inv .0 ∙ ap (mapped (totalsOf (l .t))) (more-declined (b .before .before .before .args .s .now) (moreAfter (l .t)) (l .at) 6 (sym (b .box-header .ensures) ∙ ap headerSays (c .enum-told2 .given .1))))
 
 enum-known-fourcc : tie.Need-enum-known-fourcc Inv-loop μ-loop
 enum-known-fourcc c = search needs

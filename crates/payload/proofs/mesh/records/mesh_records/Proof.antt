@@ -12,7 +12,7 @@ use Rattle.payload.specs.Meshes.{listSize, measuredSays, recordedMeshes,
 use Rattle.payload.specs.Internal.{meshesFrom}
 use Rattle.payload.specs.declared.mesh.measure.MeshListSize.{MeshListSize}
 use Rattle.payload.proofs.LentLaws.{refused, too-short, all-stored}
-use Rattle.payload.proofs.TurnLaws.{Listed, listed, not-listed, listed-lengths}
+use Rattle.payload.proofs.TurnLaws.{Listed, listed, not-listed, listed-lengths, listed-meshes}
 use borrow.Author.Needs.{needs}
 use Rattle.payload.proofs.mesh.records.mesh_records.Statement.{statement}
 use Rattle.payload.proofs.mesh.records.mesh_records.Tie as tie
@@ -60,7 +60,7 @@ record-boxes-requires : tie.Need-record-boxes-requires
 record-boxes-requires c κs =
     let L = told (c .before .before .before .before) in
     let h = listed-lengths L in
-    (L .short, L .read, omega arith)
+    (L .short, L .read, omega arith, listed-meshes L)
 
 returns-2 : tie.Need-returns-2
 returns-2 c =

@@ -53,7 +53,7 @@ same-length : tie.Need-same-length
 same-length c = search needs
 
 returns : tie.Need-returns
-returns c = let a = c .args in set-five (now (a .out)) (a .at) (a .r .mesh) (a .r .texture) (a .r .mode) (a .r .first) (a .r .points)
+returns c = let a = c .args in set-five (now (a .out)) (a .at) (a .r .eye) (a .r .texture) (a .r .mode) (a .r .first) (a .r .points)
 
 pub put-record-spec : {M : Type 1} → statement M
 put-record-spec =

@@ -5,7 +5,8 @@ use native.Mathlib.Omega.{arith}
 use lib.ListN.{length}
 use denote.Ref.{now}
 use Rattle.bits.specs.Header.{headerSays}
-use Rattle.payload.specs.MeshRead.{readFrom}
+use Rattle.payload.specs.MeshDrawing.{firstEye}
+use Rattle.payload.specs.Internal.{anyFrom}
 use Rattle.payload.proofs.StepLaws.{not-read}
 use Rattle.payload.proofs.BoxReadLaws.{at-declined}
 use Rattle.payload.proofs.TurnLaws.{BoxTurn, box-turn}
@@ -15,13 +16,18 @@ use Rattle.payload.proofs.mesh.records.record_boxes.Statement.{statemen
 use Rattle.payload.proofs.mesh.records.record_boxes.Tie as tie
 
 abbrev Inv-loop : tie.InvT-loop
-Inv-loop s records₀ at₀ to₀ records at to = RecordsLeft s records₀ records at to
+Inv-loop s meshes records₀ at₀ to₀ records at to = RecordsLeft s records₀ records at to
 
 abbrev μ-loop : tie.MeasureT-loop
-μ-loop s records₀ at₀ to₀ records at to = length s - at
+μ-loop s meshes records₀ at₀ to₀ records at to = length s - at
+
+first-eye-requires : tie.Need-first-eye-requires Inv-loop μ-loop
+first-eye-requires c κs = search needs
 
 loop-holds : tie.Need-loop-holds Inv-loop μ-loop
-loop-holds c = let a = c .before .before in records-start (now (a .args .s)) (now (a .args .records)) (a .pre .0) (a .pre .1) (a .pre .2)
+loop-holds c =
+    let a = c .before .before .before in
+    records-start (now (a .args .s)) (now (a .args .records)) _ (c .first-eye .ensures ∙ ap firstEye (a .pre .3)) (a .pre .0) (a .pre .1) (a .pre .2)
 
 box-header-requires : tie.Need-box-header-requires Inv-loop μ-loop
 box-header-requires c κs = search needs
@@ -47,23 +53,23 @@ returns-2 : tie.Need-returns-2 Inv-loop μ-loop
 returns-2 c =
     let b = c .before .before in
     let l = b .before .loop in
-    let s = now (b .before .before .before .before .args .s) in
-    absurd (not-read (readFrom s (l .at)) 6 (at-declined s (l .at) 6 (sym (b .box-header .ensures) ∙ ap headerSays (c .enum-told2 .given .1))) (l .inv .read))
+    let s = now (b .before .before .before .before .before .args .s) in
+    absurd (not-read (anyFrom s (l .at)) 6 (at-declined s (l .at) 6 (sym (b .box-header .ensures) ∙ ap headerSays (c .enum-told2 .given .1))) (l .inv .read))
 
 enum-known-fourcc : tie.Need-enum-known-fourcc Inv-loop μ-loop
 enum-known-fourcc c = search needs
 
 -- the box that stands here
 turned : (k : tie.After-known-told Inv-loop μ-loop)
-    → BoxTurn (now (k .before .before .before .before .before .before .before .args .s)) (k .before .before .before .before .loop .at) (k .before .fourcc .given .0 .0) (k .before .fourcc .given .0 .1 .0) (k .before .fourcc .given .0 .1 .1 .0)
+    → BoxTurn (now (k .before .before .before .before .before .before .before .before .args .s)) (k .before .before .before .before .loop .at) (k .before .fourcc .given .0 .0) (k .before .fourcc .given .0 .1 .0) (k .before .fourcc .given .0 .1 .1 .0)
 turned k =
     let l = k .before .before .before .before .loop in
-    box-turn (now (k .before .before .before .before .before .before .before .args .s)) (l .at) _ _ _ (l .inv .read) (sym (k .before .before .before .box-header .ensures) ∙ ap headerSays (k .before .fourcc .given .1))
+    box-turn (now (k .before .before .before .before .before .before .before .before .args .s)) (l .at) _ _ _ (l .inv .read) (sym (k .before .before .before .box-header .ensures) ∙ ap headerSays (k .before .fourcc .given .1))
 
 record-box-requires : tie.Need-record-box-requires Inv-loop μ-loop
 record-box-requires c κs =
     let k = c .before in
-    let a = k .before .before .before .before .before .before .before in
+    let a = k .before .before .before .before .before .before .before .before in
     let T = turned k in
     ((a .pre .0, T .whole, T .ends, T .read), records-room (k .before .before .before .before .loop .inv) _ _ _ T)
 
@@ -83,6 +89,7 @@ record-boxes-spec =
     (tie.spec
     Inv-loop
     μ-loop
+    first-eye-requires
     loop-holds
     box-header-requires
     enum-told

@@ -6,13 +6,15 @@ use native.Mathlib.Omega.{arith}
 use denote.Ref.{now}
 use lib.ListN.{length, length-take, length-drop}
 use Rattle.payload.specs.MeshSpells.{part}
-use Rattle.payload.specs.MeshRead.{readMeshes, readFrom}
+use Rattle.payload.specs.MeshRead.{readMeshes}
+use Rattle.payload.specs.Internal.{anyFrom}
 use Rattle.payload.specs.Internal.{WasRead, valueOr, meshRead, meshesFrom}
 use Rattle.payload.specs.Records.{pointSum}
 use Rattle.payload.specs.InternalPlaces.{nextSays}
 use Rattle.payload.specs.InternalTextures.{listWeights, Addable}
 use Rattle.payload.proofs.PlaceLaws.{MeshNext, next-read}
 use Rattle.payload.proofs.StepLaws.{read-value}
+use Rattle.payload.proofs.MeshTheorems.{any-read, any-was}
 use Rattle.payload.proofs.MeasureLaws.{list-fits}
 use Rattle.payload.proofs.TextureLaws.{first-mesh, list-weights-sum}
 use Rattle.payload.proofs.TallyLaws.{Adding, adding-none, adding-all, adding-room, adding-on}
@@ -22,7 +24,7 @@ use Rattle.payload.proofs.mesh.textures.count_textures.Tie as tie
 
 -- the meshes before `at` were added
 pub record Along (s : List ℕ) (at : ℕ) (sums₀ order₀ sums order : List ℕ) (n : ℕ) : Type 0 where
-  pub read : WasRead (readFrom s at)
+  pub read : WasRead (anyFrom s at)
   pub adding : Adding (listWeights (meshesFrom s 0)) (listWeights (meshesFrom s at)) sums₀ order₀ 0 sums order n
 
 -- all points together fit a word
@@ -30,7 +32,7 @@ fits : (s : List ℕ) → length s ≤ 67108864 → WasRead (readMeshes s)
     → 0 + pointSum (listWeights (meshesFrom s 0)) < 4294967296
 fits s h r =
     let v = read-value (readMeshes s) r in
-    let e : meshesFrom s 0 ≡ v .0 = ap (valueOr []) (v .1) in
+    let e : meshesFrom s 0 ≡ v .0 = ap (valueOr []) (any-read s (v .0) (v .1)) in
     rw e (omega (arith, list-weights-sum (v .0), list-fits s (v .0) (v .1) .1))
 
 abbrev Inv-loop : tie.InvT-loop
@@ -40,7 +42,7 @@ abbrev μ-loop : tie.MeasureT-loop
 μ-loop s sums₀ order₀ at₀ n₀ sums order at n = length s - at
 
 loop-holds : tie.Need-loop-holds Inv-loop μ-loop
-loop-holds c = record { read = c .before .pre .1; adding = adding-none _ _ _ _ }
+loop-holds c = record { read = any-was _ (c .before .pre .1); adding = adding-none _ _ _ _ }
 
 next-mesh-requires : tie.Need-next-mesh-requires Inv-loop μ-loop
 next-mesh-requires c κs = search needs
