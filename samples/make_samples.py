@@ -40,11 +40,14 @@ def zigzag(delta):
     return 2 * delta if delta >= 0 else -2 * delta - 1
 
 
-def box(kind, body):
+def box(kind, body, long=False):
+    """A box with a size of 4 bytes, or with a long one: 8 bytes behind the type, and the 4 bytes are 1."""
+    if long:
+        return (1).to_bytes(4, "big") + kind + (16 + len(body)).to_bytes(8, "big") + body
     return (8 + len(body)).to_bytes(4, "big") + kind + body
 
 
-def mesh(pool, vertices, submeshes, free=0):
+def mesh(pool, vertices, submeshes, free=0, long=False):
     """A mesh box: pool words, vertices of five coordinate numbers, submeshes (texture, mode, points)."""
     b = Bits()
     b.put(len(pool), 32)
@@ -66,7 +69,7 @@ def mesh(pool, vertices, submeshes, free=0):
         for point in points:
             b.put(zigzag(point - at), width(len(vertices)))
             at = point
-    return box(b"mesh", b.bytes(free))
+    return box(b"mesh", b.bytes(free), long)
 
 
 def listing(meshes):
@@ -165,17 +168,25 @@ save("textures", mesh(*again) + mesh(*once), listing([again[2], once[2]]))
 every = ([0, ONE], SMALL[1], [(255 - t, t % 4, [0] * (1 + t % 7)) for t in range(256)])
 save("all_textures", mesh(*every), listing([every[2]]))
 save("skipped", box(b"free", b"anything") + mesh(*SMALL, free=1) + box(b"mdat", m1) + b"\xff" * 7, listing([SMALL[2]]))
+long_boxes = [box(b"free", b"anything", long=True), mesh(*left, long=True), box(b"mdat", m1), mesh(*right),
+              box(b"free", b"", long=True)]
+save("long_sizes", b"".join(long_boxes), listing([left[2], right[2]]))
 save("damaged", mesh(*left)[:-2] + b"\xff\xff" + mesh(*right), "refused 8\n")
 save("refused_2", bytes(16385), "refused 2\n")
 save("refused_3", (38).to_bytes(4, "big") + m1[4:38], "refused 3\n")
+long_m1 = mesh(*SMALL, long=True)
+save("refused_3_long_size", m1 + long_m1[:15], "refused 3\n")
 save("refused_6", m1[:-1], "refused 6\n")
+# What follows the type, 00000002 00000000, is then a long size, past the end.
 save("refused_6_size_1", (1).to_bytes(4, "big") + m1[4:], "refused 6\n")
+save("refused_6_long_size", long_m1[:8] + (15).to_bytes(8, "big") + long_m1[16:], "refused 6\n")
 save("refused_7", m1[:8] + (0).to_bytes(4, "big") + m1[12:], "refused 7\n")
 save("refused_8", m1[:38] + b"\x0f" + m1[39:], "refused 8\n")
 save("refused_17", mesh([0, INFINITY], *SMALL[1:]), "refused 17\n")
 save("refused_17_undrawn", mesh([0, ONE, NAN], *SMALL[1:]), "refused 17\n")
 save("refused_18", m1 * 3, "refused 18\n")
 save("refused_18_unread", m1 + box(b"free", m1) + m1 + box(b"mesh", b""), "refused 18\n")
+save("refused_18_long_size", m1 + long_m1 + long_m1[:8], "refused 18\n")
 
 eyes = [dome(0, (0.49, 0.51), 0.0), dome(1, (0.52, 0.49), 0.06)]
 save("dome", b"".join(mesh(*eye) for eye in eyes), listing([eye[2] for eye in eyes]))

@@ -9,7 +9,7 @@ use Rattle.bits.specs.Verdict.{Verdict, accepted, needs, declined, withi
 use Rattle.bits.specs.Field.{field}
 use Rattle.bits.proofs.VerdictLaws.{clash}
 use Rattle.bits.specs.Number.{ranOn}
-use Rattle.bits.specs.Header.{listEnd, box, sizedAt, headerAt}
+use Rattle.bits.specs.Header.{Item, listEnd, box, extentOf, longExtent, sizedAt, headerAt}
 use Rattle.bits.specs.Run.{complete, shift, readRun}
 use Rattle.bits.specs.Refusals.{among, Refuses, gives, refuses, RefusesOr12, listed, asks, NeverDeclines}
 
@@ -82,15 +82,40 @@ module _ {ks : List ℕ} where
       (then-refuses (next-refuses eight limit (getD prior 0 0) (field s p w)) (λ next.
       mapped-refuses (λ x. (next ∷ x .0, x .1)) (run-refuses three eight s w limit n (p + w) (shift prior next))))
 
-  pub header-refuses : among 6 ks ≡ true → (s : List ℕ) (p : ℕ) → Refuses ks (headerAt s p)
+  extent-refuses : among 6 ks ≡ true → (n p h size : ℕ) → Refuses ks (extentOf n p h size)
+  unfolding extentOf
+  extent-refuses six n p h size =
+      cond-refuses (leb h size) (within-refuses (p + size) n (p + h, p + size) 6 six) (refuses 6 six)
+
+  long-refuses : among 3 ks ≡ true → among 6 ks ≡ true → (s : List ℕ) (p : ℕ) → Refuses ks (longExtent s p)
+  unfolding longExtent
+  long-refuses three six s p =
+      then-refuses (within-refuses (p + 8 + 8) (length s) (field s (8 * (p + 8)) 64, p + 8 + 8) 3 three)
+      (λ x. extent-refuses six (length s) p 16 (x .0))
+
+  -- what follows a header, of the list's end and of a box, whose extent may be refused
+  pub header-then : {B : Type 0} → among 3 ks ≡ true → among 6 ks ≡ true → (s : List ℕ) (p : ℕ) (f : Item → Verdict B)
+      → Refuses ks (f listEnd) → ((type : ℕ) (v : Verdict (ℕ × ℕ)) → Refuses ks v → Refuses ks (f (box type v)))
+      → Refuses ks (andThen (headerAt s p) f)
   unfolding headerAt sizedAt
-  header-refuses six s p =
-      let size = field s (8 * p) 32 in
-      cond-refuses (leb (p + 8) (length s))
-      (cond-refuses (leb 8 size)
-      (within-refuses (p + size) (length s) (box (field s (8 * (p + 4)) 32) (p + 8) (p + size)) 6 six)
-      (refuses 6 six))
-      (gives listEnd)
+  header-then three six s p f end each = go (leb (p + 8) (length s)) (eqb size 1)
+    where
+      size : ℕ
+      size = field s (8 * p) 32
+
+      type : ℕ
+      type = field s (8 * (p + 4)) 32
+
+      short : (v : Verdict (ℕ × ℕ)) → Refuses ks v → Refuses ks (andThen (mapped (λ e. box type (accepted e)) v) f)
+      short v (gives e) = each type (accepted e) (gives e)
+      short v (refuses k h) = refuses k h
+
+      go : (b c : Bool)
+          → Refuses ks (andThen (cond b (cond c (accepted (box type (longExtent s p)))
+          (mapped (λ e. box type (accepted e)) (extentOf (length s) p 8 size))) (accepted listEnd)) f)
+      go false c = end
+      go true true = each type (longExtent s p) (long-refuses three six s p)
+      go true false = short (extentOf (length s) p 8 size) (extent-refuses six (length s) p 8 size)
 
   -- ---- what is not listed is no answer
 

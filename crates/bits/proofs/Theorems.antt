@@ -16,13 +16,14 @@ use Rattle.bits.proofs.FieldLaws.{field-lt, field-split, field-bytes, f
 use Rattle.bits.specs.Verdict.{Verdict, accepted, needs, declined, widthLimited}
 use Rattle.bits.specs.Number.{Moves, steppedTo, widthOf}
 use Rattle.bits.specs.Run.{RunSpells, zeros, readRun}
-use Rattle.bits.specs.Refusals.{among, Claim, EachCall, Refusals, NeverSixteen}
+use Rattle.bits.specs.Header.{placed}
+use Rattle.bits.specs.Refusals.{among, gives, Claim, EachCall, Refusals, NeverSixteen}
 use Rattle.bits.proofs.ReadLaws.{one-by-bits, two-by-bits, field-held, one-gathered, two-gathered}
 use Rattle.bits.proofs.NumberLaws.{moves-meaning, meaning-moves, ran-moves, moves-ran, stepped-in, moves-stepped, width-enough, width-least}
 use Rattle.bits.proofs.RunLaws.{run-spells, spells-run}
 use Rattle.bits.proofs.SummedLaws.{read-summed}
 use Rattle.bits.proofs.PutLaws.{field-put-yes, field-put-no, field-put-wide, field-bitsPut, before-bitsPut, free-bitsPut, after-bitsPut, length-bitsPut, field-word-put}
-use Rattle.bits.proofs.RefusalLaws.{mapped-refuses, within-refuses, limited-refuses, width-refuses, width-asks, within-asks, next-refuses, run-refuses, header-refuses, unlisted, unlisted-12}
+use Rattle.bits.proofs.RefusalLaws.{mapped-refuses, within-refuses, limited-refuses, width-refuses, width-asks, within-asks, next-refuses, run-refuses, header-then, unlisted, unlisted-12}
 
 pub field-laws : FieldLaws
 field-laws =
@@ -140,7 +141,7 @@ refusals =
         skip = λ s p n. within-refuses (p + n) (length s) (p + n) 3 refl;
         u8 = λ s p. within-refuses (p + 1) (length s) _ 3 refl;
         u32 = λ s p. within-refuses (p + 4) (length s) _ 3 refl;
-        box-header = header-refuses refl;
+        box-header = λ s p. header-then refl refl s p placed (gives []) (λ type v r. mapped-refuses _ r);
         run-on = next-refuses refl;
         check-run = λ s limit count p. limited-refuses s refl (mapped-refuses _ (run-refuses refl refl s (widthOf limit) limit count p (zeros 1)));
         check-fives = λ s limit count p. limited-refuses s refl (mapped-refuses _ (run-refuses refl refl s (widthOf limit) limit (5 * count) p (zeros 5)));

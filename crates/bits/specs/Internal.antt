@@ -5,12 +5,17 @@ use mathlib.Core.Bool.{Bool, _&&_, cond}
 use mathlib.Core.List.{List, [], _∷_}
 use lib.Dec.{leb, ltb}
 use lib.ListN.{length}
+use Rattle.bits.specs.Verdict.{Verdict, accepted, declined}
 use Rattle.bits.specs.Field.{field, heldBits, gathered}
 use Rattle.bits.specs.Number.{steppedTo}
 use Rattle.bits.specs.Run.{zeros, low16}
 use Rattle.bits.specs.declared.fields.runs.Fields.{Fields}
 use Rattle.bits.specs.declared.fields.runs.Five.{Five}
 use Rattle.bits.specs.declared.fields.runs.Moved.{Moved}
+use Rattle.bits.specs.declared.headers.Extent.{Extent}
+use Rattle.bits.specs.declared.headers.Extent.the-variants as E
+use Rattle.bits.specs.declared.headers.LongRead.{LongRead}
+use Rattle.bits.specs.declared.headers.LongRead.the-variants as L
 
 -- n bits from bit p on lie inside a body of at most 67,108,864 bytes, and five bytes or more end with each that follows
 pub record Inside (s : List ℕ) (p n : ℕ) : Type 0 where
@@ -62,3 +67,14 @@ allBelow limit r = (((ltb (r .a) limit && ltb (r .b) limit) && ltb (r .c) limit)
 -- the five in 16 bits
 abbrev pub fiveLow : Moved → List ℕ
 fiveLow r = low16 (r .a) ∷ low16 (r .b) ∷ low16 (r .c) ∷ low16 (r .d) ∷ low16 (r .e) ∷ []
+
+-- ---- box headers
+
+abbrev pub extentSays : Extent → Verdict (ℕ × ℕ)
+extentSays (E.Body body end) = accepted (body, end)
+extentSays E.BadSize = declined 6
+
+-- a number of eight bytes, and the place q after it
+abbrev pub longSays : ℕ → LongRead → Verdict (ℕ × ℕ)
+longSays q (L.Value v) = accepted (v, q)
+longSays q L.Short = declined 3

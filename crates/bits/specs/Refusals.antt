@@ -6,11 +6,11 @@ use mathlib.Core.Bool.{Bool, true, false, _||_}
 use mathlib.Core.List.{List, [], _∷_}
 use lib.Dec.{eqb}
 use lib.IntN.{ℤ, pos, negℤ}
-use Rattle.bits.specs.Verdict.{Verdict, accepted, needs, declined, limited}
+use Rattle.bits.specs.Verdict.{Verdict, accepted, needs, declined, limited, andThen}
 use Rattle.bits.specs.Read.{numberAt, placeIn, fieldAt, twoAt}
 use Rattle.bits.specs.Number.{ranOn, widthOf}
 use Rattle.bits.specs.Run.{zeros, readRun, judged}
-use Rattle.bits.specs.Header.{headerAt}
+use Rattle.bits.specs.Header.{headerAt, placed}
 use Rattle.bits.specs.Put.{wordPutAnswer, fieldPutAnswer}
 
 -- k is one of these numbers
@@ -33,14 +33,14 @@ abbrev pub Claim : Type 1
 Claim = (A : Type 0) → List ℕ → Verdict A → Type 0
 
 -- of each call but the three of fields, what its contract says that it answers: `Or12` where 12 is one of its numbers
--- too
+-- too; of a box header with the refusal of its long size told as the answer's
 pub record EachCall (Plain Or12 : Claim) : Type 0 where
   -- whole bytes
   pub seek : (s : List ℕ) (to : ℕ) → Plain _ (3 ∷ []) (placeIn s to)
   pub skip : (s : List ℕ) (p n : ℕ) → Plain _ (3 ∷ []) (placeIn s (p + n))
   pub u8 : (s : List ℕ) (p : ℕ) → Plain _ (3 ∷ []) (numberAt 1 s p)
   pub u32 : (s : List ℕ) (p : ℕ) → Plain _ (3 ∷ []) (numberAt 4 s p)
-  pub box-header : (s : List ℕ) (p : ℕ) → Plain _ (6 ∷ []) (headerAt s p)
+  pub box-header : (s : List ℕ) (p : ℕ) → Plain _ (3 ∷ 6 ∷ []) (andThen (headerAt s p) placed)
   -- running numbers and runs of them
   pub run-on : (limit last f : ℕ) → Plain _ (8 ∷ []) (ranOn limit last f)
   pub check-run : (s : List ℕ) (limit count p : ℕ)

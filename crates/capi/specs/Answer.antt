@@ -7,7 +7,6 @@ use lib.Seq.{sets}
 use lib.IntN.{ℤ, pos, negsuc, negℤ}
 use lib.Dec.{leb}
 use Rattle.bits.specs.Verdict.{Verdict, accepted, needs, declined}
-use Rattle.bits.specs.Header.{Item, listEnd, box}
 
 -- the i64: how many words the value has, -12 where a buffer is too short, -k for refusal k
 unfoldable pub codeOf : Verdict (List ℕ) → ℤ
@@ -41,10 +40,6 @@ two v = v .0 ∷ v .1 ∷ []
 
 abbrev pub three : ℕ × ℕ × ℕ → List ℕ
 three v = v .0 ∷ v .1 ∷ v .2 ∷ []
-
-abbrev pub item : Item → List ℕ
-item listEnd = []
-item (box type body end) = type ∷ body ∷ end ∷ []
 
 -- an answer that is a number and no words: the number itself; -12 and -k as above
 abbrev pub numbered : Verdict ℕ → ℤ

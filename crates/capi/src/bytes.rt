@@ -12,10 +12,10 @@ ghost use mathlib.Core.Path.{_≡_};
 ghost use Prim.Native.Nat.{_+_, _-_, _*_, _^_};
 ghost use lib.IntN.{pos};
 ghost use lib.ListN.{length};
-ghost use Rattle.bits.specs.Verdict.{accepted, mapped};
+ghost use Rattle.bits.specs.Verdict.{accepted, andThen, mapped};
 ghost use Rattle.bits.specs.Read.{numberAt, placeIn, byteSays, wordSays, seekSays};
-ghost use Rattle.bits.specs.Header.{headerAt, headerSays};
-ghost use Rattle.capi.specs.Answer.{codeOf, wordsAfter, one, two, item};
+ghost use Rattle.bits.specs.Header.{headerAt, placed, headerSays};
+ghost use Rattle.capi.specs.Answer.{codeOf, wordsAfter, one, two};
 ghost use Rattle.capi.specs.Reply.{Says};
 
 fn of_seek(x: Seek) -> Reply
@@ -46,7 +46,7 @@ fn of_word(x: WordRead) -> Reply
 }
 
 fn of_header(x: BoxHeader) -> Reply
-    ensures { λ r. ⌜ Says r (mapped item (headerSays x)) ⌝ }
+    ensures { λ r. ⌜ Says r (andThen (headerSays x) placed) ⌝ }
 {
     match x {
         BoxHeader::Header { fourcc, body, end } => {
@@ -54,6 +54,7 @@ fn of_header(x: BoxHeader) -> Reply
         }
         BoxHeader::ListEnd => accept(&[]),
         BoxHeader::BadSize => decline(6),
+        BoxHeader::Refused { fourcc: _, number } => decline(number),
     }
 }
 
@@ -121,9 +122,9 @@ pub extern "C" fn capi_u32(s: &[u8], at: usize, words: &mut [u64]) -> i64
 
 #[no_mangle]
 pub extern "C" fn capi_header(s: &[u8], at: usize, words: &mut [u64]) -> i64
-    ensures answer { λ r. ⌜ r ≡ codeOf (mapped item (headerAt (now (s .entry)) at)) ⌝ }
+    ensures answer { λ r. ⌜ r ≡ codeOf (andThen (headerAt (now (s .entry)) at) placed) ⌝ }
     ensures words { λ _. ⌜ now (words .exit)
-        ≡ wordsAfter (now (words .entry)) (mapped item (headerAt (now (s .entry)) at)) ⌝ }
+        ≡ wordsAfter (now (words .entry)) (andThen (headerAt (now (s .entry)) at) placed) ⌝ }
 {
     hand_out(words, of_header(bits::box_header(s, ByteCursor { at })))
 }

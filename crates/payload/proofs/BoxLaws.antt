@@ -1,6 +1,6 @@
 -- The box of a mesh: its fields stand where the layout has them, and a plain box that a mesh spells is that mesh's box.
 use Prim.Native.Nat.{ℕ, zero, suc, _+_, _-_, _*_, _/_, _^_, _≤_, _<_}
-use mathlib.Core.Path.{_≡_, sym, ap, ap₂, _∙_, subst}
+use mathlib.Core.Path.{_≡_, refl, sym, ap, ap₂, _∙_, subst}
 use mathlib.Core.List.{List, [], _∷_, _++_, append-assoc}
 use native.Mathlib.Omega.{arith}
 use native.Mathlib.Nat.{mod-eq-of-lt}
@@ -23,6 +23,7 @@ use Rattle.payload.specs.MeshSpells.{submeshesEnd, typeAt, meshVertices,
 use Rattle.payload.specs.MeshWrite.{boxSize, gap, meshBody, meshBox, meshFields, runFields, submeshesFields, vertexFields, wordFields}
 use Rattle.payload.specs.Packed.{Field, Fits, Laid, bits, spare}
 use Rattle.bits.specs.Run.{zeros}
+use Rattle.payload.proofs.BoxReadLaws.{short-body, short-end}
 use Rattle.payload.proofs.MeshWriteLaws.{Within, mesh-bits, run-fit, run-in, run-out, submeshes-fit, submeshes-in, submeshes-out, vertex-bits, words-bits, words-fit, words-in, words-out}
 use Rattle.payload.proofs.PackedLaws.{fits-append, laid-append, laid-left, laid-packed, laid-right, packed-laid, packed-length}
 
@@ -127,46 +128,68 @@ body-written s x e c between stop after =
 
 -- ---- a box
 
--- where the body of the first box begins, and where the box ends, by its size
-first-box : (s : List ℕ) (n : ℕ) → sizeAt s 0 ≡ n → (bodyAt s 0 ≡ headerBytes) × (endAt s 0 ≡ n)
-first-box s n e = (omega arith, omega arith)
+-- where the body of the first box begins, and where the box ends, by its short size
+first-box : (s : List ℕ) (n : ℕ) → sizeAt s 0 ≡ n → headerBytes ≤ n → (bodyAt s 0 ≡ headerBytes) × (endAt s 0 ≡ n)
+first-box s n e h =
+    let short : sizeAt s 0 ≡ 1 → ⊥ = λ f. omega arith in
+    (omega (arith, short-body s 0 short), omega (arith, short-end s 0 short))
+
+-- a header with a size and a type, and what stands behind it
+module _ (size type : ℕ) where
+  pub header : List ℕ
+  header = bytesOf 4 size ++ bytesOf 4 type
+
+  pub header-is : header ≡ bytesOf 4 size ++ bytesOf 4 type
+  unfolding header
+  header-is = refl
+
+  pub header-length : length header ≡ headerBytes
+  unfolding header
+  header-length =
+      length-append (bytesOf 4 size) (bytesOf 4 type) ∙ ap₂ (λ (a b : ℕ). a + b) (length-bytes 4 size) (length-bytes 4 type)
+
+  pub header-size : (s : List ℕ) → size < 2 ^ 32 → sizeAt (header ++ s) 0 ≡ size
+  unfolding header
+  header-size s h =
+      field-append header s 0 32 (omega (arith, header-length))
+      ∙ field-append (bytesOf 4 size) (bytesOf 4 type) 0 32 (omega (arith, length-bytes 4 size))
+      ∙ field-bytesOf 4 size
+      ∙ mod-eq-of-lt h
+
+  pub header-type : (s : List ℕ) → type < 2 ^ 32 → typeAt (header ++ s) 0 ≡ type
+  unfolding header
+  header-type s h =
+      field-append header s 32 32 (omega (arith, header-length))
+      ∙ ap (λ (q : ℕ). field header q 32) (omega (arith, length-bytes 4 size))
+      ∙ field-append-right (bytesOf 4 size) (bytesOf 4 type) 0 32
+      ∙ field-bytesOf 4 type
+      ∙ mod-eq-of-lt h
 
 module _ (x : Mesh) where
-  header : List ℕ
-  header = bytesOf 4 (boxSize x) ++ bytesOf 4 meshType
-
-  header-length : length header ≡ headerBytes
-  unfolding header
-  header-length = length-append (bytesOf 4 (boxSize x)) (bytesOf 4 meshType) ∙ ap₂ (λ (a b : ℕ). a + b) (length-bytes 4 (boxSize x)) (length-bytes 4 meshType)
+  box-is : meshBox x ≡ header (boxSize x) meshType ++ meshBody x
+  unfolding meshBox header
+  box-is = refl
 
   pub box-length : length (meshBox x) ≡ boxSize x
-  unfolding meshBox header
-  box-length = length-append header (meshBody x) ∙ ap₂ (λ (a b : ℕ). a + b) header-length (body-length x ∙ ap (λ (b : ℕ). (b + 7) / 8) (sym (mesh-bits x)))
+  box-length =
+      ap length box-is ∙ length-append (header (boxSize x) meshType) (meshBody x)
+      ∙ ap₂ (λ (a b : ℕ). a + b) (header-length (boxSize x) meshType)
+      (body-length x ∙ ap (λ (b : ℕ). (b + 7) / 8) (sym (mesh-bits x)))
 
   pub box-body : drop 8 (meshBox x) ≡ meshBody x
-  unfolding meshBox header
-  box-body = drop-at header (meshBody x) 8 header-length
+  box-body = ap (drop 8) box-is ∙ drop-at (header (boxSize x) meshType) (meshBody x) 8 (header-length (boxSize x) meshType)
+
+  pub box-size : boxSize x ≤ 67108864 → sizeAt (meshBox x) 0 ≡ boxSize x
+  box-size h =
+      ap (λ (s : List ℕ). sizeAt s 0) box-is ∙ header-size (boxSize x) meshType (meshBody x) (omega (arith, h))
 
   module _ (h : Within x) where
-    box-size : sizeAt (meshBox x) 0 ≡ boxSize x
-    unfolding meshBox header
-    box-size =
-        field-append header (meshBody x) 0 32 (omega (arith, header-length))
-        ∙ field-append (bytesOf 4 (boxSize x)) (bytesOf 4 meshType) 0 32 (omega (arith, length-bytes 4 (boxSize x)))
-        ∙ field-bytesOf 4 (boxSize x)
-        ∙ mod-eq-of-lt (omega (arith, h .size))
-
     box-type : typeAt (meshBox x) 0 ≡ meshType
-    unfolding meshBox header
-    box-type =
-        field-append header (meshBody x) 32 32 (omega (arith, header-length))
-        ∙ ap (λ (q : ℕ). field header q 32) (omega (arith, length-bytes 4 (boxSize x)))
-        ∙ field-append-right (bytesOf 4 (boxSize x)) (bytesOf 4 meshType) 0 32
-        ∙ field-bytesOf 4 meshType
+    box-type = ap (λ (s : List ℕ). typeAt s 0) box-is ∙ header-type (boxSize x) meshType (meshBody x) (omega arith)
 
     box-part : part (meshBox x) (bodyAt (meshBox x) 0) (endAt (meshBox x) 0) ≡ meshBody x
     box-part =
-        let f = first-box (meshBox x) (boxSize x) box-size in
+        let f = first-box (meshBox x) (boxSize x) (box-size (h .size)) (omega arith) in
         rw (f .0, f .1)
         (ap (take (boxSize x - headerBytes)) box-body
         ∙ take-all (boxSize x - headerBytes) (meshBody x) (omega (arith, body-length x, mesh-bits x)))
@@ -174,7 +197,7 @@ module _ (x : Mesh) where
     -- the list of the mesh alone spells its box
     pub box-spells : AllFinite (x .pool) → MeshesSpell (x ∷ []) (meshBox x)
     box-spells k =
-        let f = first-box (meshBox x) (boxSize x) box-size in
+        let f = first-box (meshBox x) (boxSize x) (box-size (h .size)) (omega arith) in
         let l = box-length in
         record {
           boxes =
@@ -218,12 +241,12 @@ held h (skips b n r) = absurd (nothing-left h r)
 
 module _ (s : List ℕ) (x : Mesh) (e : MeshesSpell (x ∷ []) s) (b : PlainBox x s) where
   in-box : Held s 0 x
-  in-box = held (omega (arith, first-box s (length s) (b .lone) .1)) (e .boxes)
+  in-box = held (omega (arith, first-box s (length s) (b .lone) (omega (arith, b .ends-there)) .1)) (e .boxes)
 
   pub plain-body : MeshSpells (drop 8 s) x
   plain-body =
       let n : length (drop 8 s) ≡ length s - 8 = length-drop 8 s in
-      let f = first-box s (length s) (b .lone) in
+      let f = first-box s (length s) (b .lone) (omega (arith, b .ends-there)) in
       let t : part s (bodyAt s 0) (endAt s 0) ≡ drop 8 s =
       rw (f .0, f .1) (take-all (length s - headerBytes) (drop 8 s) (omega arith)) in
       rw t at (in-box .spells)

@@ -19,7 +19,7 @@ use Rattle.payload.proofs.MeshTheorems.{meshes-reads}
 use Rattle.payload.proofs.MeasureLaws.{submesh-records}
 
 -- boxes that were read leave the refusal to what comes after them, where so many meshes fewer may come
-after-boxes : {s : List ℕ} {p q : ℕ} {l : List Mesh} → BoxesUpTo s p q l → (more k : ℕ) → length l ≤ more
+pub after-boxes : {s : List ℕ} {p q : ℕ} {l : List Mesh} → BoxesUpTo s p q l → (more k : ℕ) → length l ≤ more
     → readFrom s (more - length l) q ≡ declined k → readFrom s more p ≡ declined k
 after-boxes {s} {p} (ends i) more k h e =
     let z : more - 0 ≡ more = omega arith in
@@ -78,8 +78,8 @@ eye-laws =
       third = λ s p x y before b t.
           after-boxes before 2 18 (omega arith)
           (more-mesh s 0 p (typeAt s p) (bodyAt s p) (endAt s p) (header-whole s p b) t);
-      size-first = λ s p l before h i e.
-          after-boxes before 2 6 h (more-declined s (2 - length l) p 6 (header-bad s p i e));
+      size-first = λ s p l before h i n e.
+          after-boxes before 2 6 h (more-declined s (2 - length l) p 6 (header-bad s p i n e));
       earlier-first = λ s p k l before h b t e.
           after-boxes before 2 k (omega arith) (body-declined s (2 - length l) p k (omega arith) b t e);
     }

@@ -50,6 +50,7 @@ pub mod PutRunLaws
 pub mod RowLaws
 pub mod MeshWriteLaws
 pub mod BoxLaws
+pub mod LongProofs
 pub mod JudgeLaws
 pub mod FiniteProofs
 pub mod PutBoxLaws

@@ -10,20 +10,20 @@ use lib.ListN.{length, length-take, length-append}
 use borrow.Author.Tests.{eq-eqb, ne-eqb, le-leb, lt-leb}
 use Rattle.bits.specs.Verdict.{Verdict, accepted, needs, declined, andThen, mapped}
 use Rattle.bits.specs.Number.{widthOf}
-use Rattle.bits.specs.Header.{box, headerAt}
+use Rattle.bits.specs.Header.{box, sized, headerAt}
 use Rattle.bits.proofs.VerdictLaws.{clash, le-or-lt, then-yes, then-no, mapped-value, mapped-declined}
 use Rattle.payload.specs.Mesh.{Submesh, Mesh}
 use Rattle.payload.specs.MeshSpells.{submeshBits, SubmeshesSpell, meshVertices, submeshesAt, MeshSpells, meshType}
 use Rattle.payload.specs.MeshSpells.{part, headerBytes, bodyAt, endAt, sizes, BoxesSpell, ends, holds, skips}
 use Rattle.payload.specs.MeshRead.{readMesh, readMeshBox, readFrom, readMeshes}
 use Rattle.payload.specs.MeshDrawing.{drawnNumbers, runWords, submeshWords, meshWords, coordinate, drawnFloats, submeshRecords, recordsFrom, firstEye, drawnRecords, pointCount, submeshTotal, pointTotal}
-use Rattle.payload.specs.Internal.{bodySize, noTotals, withMesh, totalsOf, withBody, Room, boxTotals}
+use Rattle.payload.specs.Internal.{bodySize, noTotals, withMesh, totalsOf, withBody, Room, boxTotals, boxRefusal}
 use Rattle.payload.specs.Meshes.{listSize}
 use Rattle.payload.specs.declared.mesh.measure.Totals.{Totals}
 use Rattle.payload.specs.declared.mesh.measure.MeshListSize.{MeshListSize}
 use Rattle.payload.proofs.RangeLaws.{width-some}
 use Rattle.payload.proofs.MeshReadLaws.{mesh-spells}
-use Rattle.payload.proofs.BoxReadLaws.{body-after, header-value, meshThen, more-mesh, more-other}
+use Rattle.payload.proofs.BoxReadLaws.{body-after, header-value, meshThen, box-mesh, box-other, more-mesh, more-other, refused-more}
 use Rattle.payload.proofs.MeshTheorems.{meshes-reads}
 use Rattle.payload.proofs.CheckLaws.{run-fits}
 
@@ -101,20 +101,37 @@ module _ (s : List ℕ) (type body end : ℕ) (t : Totals) where
 abbrev pub moreAfter : Totals → ℕ
 moreAfter t = 2 - t .meshes
 
-module _ (s : List ℕ) (p type body end : ℕ) (t : Totals) (h : headerAt s p ≡ accepted (box type body end)) where
+-- a box whose long size is refused
+pub measure-refused : (s : List ℕ) (p type k : ℕ) (t : Totals) → headerAt s p ≡ accepted (box type (declined k))
+    → mapped (totalsOf t) (readFrom s (moreAfter t) p) ≡ declined (boxRefusal type k t)
+measure-refused s p type k t h = ap (mapped (totalsOf t)) (go (ℕ-discrete type meshType) (le-or-lt 2 (t .meshes)))
+  where
+    go : Dec (type ≡ meshType) → (2 ≤ t .meshes) ⊎ (t .meshes < 2)
+        → readFrom s (moreAfter t) p ≡ declined (boxRefusal type k t)
+    go (no n) d = box-other s (moreAfter t) p type (declined k) h n ∙ simp (ne-eqb type meshType n)
+    go (yes y) (inl two) =
+        let z : moreAfter t ≡ 0 = omega arith in
+        box-mesh s (moreAfter t) p type (declined k) h y
+        ∙ ap (λ (r : ℕ). readMeshBox s (readFrom s) r (declined k)) z
+        ∙ simp (eq-eqb type meshType y, le-leb 2 (t .meshes) two)
+    go (yes y) (inr few) =
+        refused-more s p type k h (moreAfter t) (λ y. omega arith)
+        ∙ simp (eq-eqb type meshType y, lt-leb 2 (t .meshes) few)
+
+module _ (s : List ℕ) (p type body end : ℕ) (t : Totals) (h : headerAt s p ≡ accepted (sized type body end)) where
   -- a mesh box: the third is refused
   mesh-refused : type ≡ meshType → 2 ≤ t .meshes → readFrom s (moreAfter t) p ≡ declined 18
   mesh-refused y two =
       let z : moreAfter t ≡ 0 = omega arith in
       more-mesh s (moreAfter t) p type body end h y
-      ∙ ap (λ (r : ℕ). readMeshBox s (readFrom s) r body end) z
+      ∙ ap (λ (r : ℕ). readMeshBox s (readFrom s) r (accepted (body, end))) z
 
   mesh-counted : type ≡ meshType → t .meshes < 2
       → readFrom s (moreAfter t) p ≡ andThen (readMesh (part s body end)) (meshThen (readFrom s (2 - (t .meshes + 1)) end))
   mesh-counted y few =
       let z : moreAfter t ≡ suc (2 - (t .meshes + 1)) = omega arith in
       more-mesh s (moreAfter t) p type body end h y
-      ∙ ap (λ (r : ℕ). readMeshBox s (readFrom s) r body end) z
+      ∙ ap (λ (r : ℕ). readMeshBox s (readFrom s) r (accepted (body, end))) z
 
   pub measure-declined : (k : ℕ) → declined k ≡ boxTotals s type body end t
       → mapped (totalsOf t) (readFrom s (moreAfter t) p) ≡ declined k

@@ -21,8 +21,8 @@ use Rattle.payload.proofs.PayloadLaws.{limited-value}
 use Rattle.payload.proofs.ReadLaws.{reads-laws}
 use Rattle.payload.proofs.StepLaws.{read-value}
 use Rattle.payload.proofs.MeshReadLaws.{mesh-spells, spells-mesh}
-use Rattle.payload.proofs.BoxReadLaws.{body-after, header-whole, Way, over, broken, whole, way, meshThen}
-use Rattle.payload.proofs.BoxReadLaws.{more-end, more-declined, more-mesh, more-other}
+use Rattle.payload.proofs.BoxReadLaws.{body-after, header-whole, Way, over, broken, refused, whole, way, meshThen}
+use Rattle.payload.proofs.BoxReadLaws.{more-end, more-declined, more-mesh, more-other, refused-any}
 
 -- by turns, since the places go up
 boxes-spell : (s : List ℕ) (turns more p : ℕ) (l : List Mesh) → p ≤ length s → length s < p + turns
@@ -50,12 +50,13 @@ boxes-spell s (suc turns) more p l i h e =
         let z : l ≡ [] = cc in
         rw z (ends (i, a), omega arith)
     go (broken c) d ih = let f = more-declined s more p 6 c in clash (cc)
+    go (refused k h c) d ih = let f = refused-any s p (typeAt s p) k c more in let g = f .1 in clash (cc)
     go (whole b c) (no n) ih =
         let f = ih b more l (sym (more-other s more p (typeAt s p) (bodyAt s p) (endAt s p) c n) ∙ e) in
         (skips b n (f .0), f .1)
     go (whole b c) (yes y) ih = mesh more (sym (more-mesh s more p (typeAt s p) (bodyAt s p) (endAt s p) c y) ∙ e)
       where
-        mesh : (r : ℕ) → readMeshBox s (readFrom s) r (bodyAt s p) (endAt s p) ≡ accepted l
+        mesh : (r : ℕ) → readMeshBox s (readFrom s) r (accepted (bodyAt s p, endAt s p)) ≡ accepted l
             → BoxesSpell s p l × (length l ≤ r)
         mesh zero d = clash (cc)
         mesh (suc r) d =

@@ -9,25 +9,26 @@ use lib.Dec.{eqb}
 use lib.ListN.{length}
 use borrow.Author.Tests.{eq-eqb, ne-eqb}
 use Rattle.bits.specs.Verdict.{Verdict, accepted, needs, declined, andThen}
-use Rattle.bits.specs.Header.{Item, listEnd, box, headerAt}
+use Rattle.bits.specs.Header.{Item, listEnd, box, sized, headerAt}
 use Rattle.bits.proofs.HeaderLaws.{header-end}
 use Rattle.payload.specs.Mesh.{Mesh}
-use Rattle.payload.specs.MeshSpells.{meshType, part}
+use Rattle.payload.specs.MeshSpells.{typeAt, bodyAt, endAt, meshType, part}
 use Rattle.payload.specs.MeshRead.{readMesh, readItem, readFrom}
 use Rattle.payload.specs.Internal.{WasRead, valueOr, anyFrom, meshRead, meshesFrom}
 use Rattle.payload.specs.InternalPlaces.{Spot, nowhere, spot, nextItem, nextIn, nextBody}
 use Rattle.payload.proofs.StepLaws.{not-read}
-use Rattle.payload.proofs.BoxReadLaws.{header-value, from-header, at-declined}
+use Rattle.payload.proofs.BoxReadLaws.{Way, over, broken, refused, whole, way, body-after, header-value}
+use Rattle.payload.proofs.BoxReadLaws.{at-declined, at-refused}
 use Rattle.payload.proofs.TurnLaws.{box-turn, box-held, box-skipped, list-end}
 
 -- ---- by what the header says
 
 item-mesh : (rest : ℕ → Spot) (type body end : ℕ) → type ≡ meshType
-    → nextItem rest (accepted (box type body end)) ≡ spot body end
+    → nextItem rest (accepted (sized type body end)) ≡ spot body end
 item-mesh rest type body end e = simp (eq-eqb type meshType e)
 
 item-other : (rest : ℕ → Spot) (type body end : ℕ) → (type ≡ meshType → ⊥)
-    → nextItem rest (accepted (box type body end)) ≡ rest end
+    → nextItem rest (accepted (sized type body end)) ≡ rest end
 item-other rest type body end n = simp (ne-eqb type meshType n)
 
 -- two numbers of turns that are enough find the same
@@ -42,9 +43,12 @@ same-turns s (suc f) (suc g) p h k = go (headerAt s p) refl (λ end b. same-turn
     go : (v : Verdict Item) → headerAt s p ≡ v → ((end : ℕ) → p + 8 ≤ end → nextIn s f end ≡ nextIn s g end)
         → nextItem (nextIn s f) v ≡ nextItem (nextIn s g) v
     go (accepted listEnd) e i = refl
-    go (accepted (box type body end)) e i =
-        let b = header-value s p type body end e in
-        ap (λ (x : Spot). cond (eqb type meshType) (spot body end) x) (i end (omega (arith, b .0 .least, b .3)))
+    go (accepted (box type (accepted x))) e i =
+        let b = header-value s p type (x .0) (x .1) e in
+        ap (λ (y : Spot). cond (eqb type meshType) (spot (x .0) (x .1)) y)
+        (i (x .1) (omega (arith, body-after s p, b .0 .least, b .3)))
+    go (accepted (box type (needs l))) e i = refl
+    go (accepted (box type (declined k))) e i = refl
     go (needs l) e i = refl
     go (declined j) e i = refl
 
@@ -59,7 +63,10 @@ module _ (s : List ℕ) (p : ℕ) where
   pub next-declined : (k : ℕ) → headerAt s p ≡ declined k → nextBody s p ≡ nowhere
   next-declined k e = by-header ∙ ap (nextItem (nextBody s)) e
 
-  module _ (type body end : ℕ) (e : headerAt s p ≡ accepted (box type body end)) where
+  pub next-refused : (type k : ℕ) → headerAt s p ≡ accepted (box type (declined k)) → nextBody s p ≡ nowhere
+  next-refused type k e = by-header ∙ ap (nextItem (nextBody s)) e
+
+  module _ (type body end : ℕ) (e : headerAt s p ≡ accepted (sized type body end)) where
     pub next-mesh : type ≡ meshType → nextBody s p ≡ spot body end
     next-mesh y = by-header ∙ ap (nextItem (nextBody s)) e ∙ item-mesh (nextBody s) type body end y
 
@@ -100,7 +107,7 @@ earlier s p q h e (spot body end) i =
       rest = i .rest;
     }
 
-held : (s : List ℕ) (p type body end : ℕ) → WasRead (anyFrom s p) → headerAt s p ≡ accepted (box type body end)
+held : (s : List ℕ) (p type body end : ℕ) → WasRead (anyFrom s p) → headerAt s p ≡ accepted (sized type body end)
     → type ≡ meshType → MeshNext s p body end
 held s p type body end r e y =
     let T = box-turn s p type body end r e in
@@ -116,25 +123,30 @@ held s p type body end r e y =
 
 next-in : (s : List ℕ) (turns p : ℕ) → length s < p + 8 * turns → WasRead (anyFrom s p) → NextIs s p (nextBody s p)
 next-in s zero p h r = let e = header-end s p (omega arith) in rw (next-end s p e) (list-end s p e)
-next-in s (suc turns) p h r = go (headerAt s p) refl (λ end o k. next-in s turns end o k)
+next-in s (suc turns) p h r = go (way s p) (λ end o k. next-in s turns end o k)
   where
-    go : (v : Verdict Item) → headerAt s p ≡ v
+    go : Way s p
         → ((end : ℕ) → length s < end + 8 * turns → WasRead (anyFrom s end) → NextIs s end (nextBody s end))
         → NextIs s p (nextBody s p)
-    go (accepted listEnd) e rec = rw (next-end s p e) (list-end s p e)
-    go (needs l) e rec = absurd (rw (from-header s (length s) p ∙ ap (λ v. andThen v (readItem s (readFrom s) (length s))) e) at r)
-    go (declined k) e rec = absurd (not-read (anyFrom s p) k (at-declined s p k e) r)
-    go (accepted (box type body end)) e rec = by (ℕ-discrete type meshType)
+    go (over o e) rec = rw (next-end s p e) (list-end s p e)
+    go (broken e) rec = absurd (not-read (anyFrom s p) 6 (at-declined s p 6 e) r)
+    go (refused k i e) rec =
+        let d = at-refused s p (typeAt s p) k e in
+        absurd (not-read (anyFrom s p) (d .0) (d .1) r)
+    go (whole w e) rec = by (ℕ-discrete (typeAt s p) meshType)
       where
-        by : Dec (type ≡ meshType) → NextIs s p (nextBody s p)
-        by (yes y) = rw (next-mesh s p type body end e y) (held s p type body end r e y)
+        by : Dec (typeAt s p ≡ meshType) → NextIs s p (nextBody s p)
+        by (yes y) =
+            rw (next-mesh s p (typeAt s p) (bodyAt s p) (endAt s p) e y)
+            (held s p (typeAt s p) (bodyAt s p) (endAt s p) r e y)
         by (no n) =
-            let T = box-turn s p type body end r e in
-            let same : meshesFrom s p ≡ meshesFrom s end =
-            T .is ∙ ap (λ l. valueOr [] l ++ meshesFrom s end) (box-skipped s type body end n) in
-            rw (next-other s p type body end e n)
-            (earlier s p end (omega (arith, T .starts, T .whole)) same (nextBody s end)
-            (rec end (omega (arith, T .starts, T .whole)) (T .rest)))
+            let T = box-turn s p (typeAt s p) (bodyAt s p) (endAt s p) r e in
+            let same : meshesFrom s p ≡ meshesFrom s (endAt s p) =
+            T .is
+            ∙ ap (λ l. valueOr [] l ++ meshesFrom s (endAt s p)) (box-skipped s (typeAt s p) (bodyAt s p) (endAt s p) n) in
+            rw (next-other s p (typeAt s p) (bodyAt s p) (endAt s p) e n)
+            (earlier s p (endAt s p) (omega (arith, T .starts, T .whole)) same (nextBody s (endAt s p))
+            (rec (endAt s p) (omega (arith, T .starts, T .whole)) (T .rest)))
 
 pub next-read : (s : List ℕ) (p : ℕ) → WasRead (anyFrom s p) → NextIs s p (nextBody s p)
 next-read s p r = next-in s (suc (length s)) p (omega arith) r

@@ -11,7 +11,7 @@ use Rattle.bits.specs.Verdict.{Verdict, needs}
 use Rattle.bits.specs.Field.{field}
 use Rattle.bits.specs.Number.{widthOf}
 use Rattle.bits.specs.Read.{numberAt}
-use Rattle.bits.specs.Header.{Item, listEnd, box}
+use Rattle.bits.specs.Header.{box}
 use Rattle.bits.specs.Run.{zeros, Found, complete}
 use Rattle.bits.proofs.VerdictLaws.{clash}
 use Rattle.payload.specs.Lent.{inItems, answerFor}
@@ -31,7 +31,7 @@ use Rattle.payload.specs.Tables.{tableLengths, bodyRead, tablesOf}
 use Rattle.payload.specs.Float.{finiteWord}
 use Rattle.payload.specs.MeshWrite.{allOf, isMesh, meshWritten}
 use Rattle.bits.specs.Refusals.{among, Refuses, gives, refuses, RefusesOr12, Claim}
-use Rattle.bits.proofs.RefusalLaws.{then-refuses, mapped-refuses, cond-refuses, within-refuses, limited-refuses, complete-refuses, run-refuses, header-refuses}
+use Rattle.bits.proofs.RefusalLaws.{then-refuses, mapped-refuses, cond-refuses, within-refuses, limited-refuses, complete-refuses, run-refuses, header-then}
 use Rattle.bits.proofs.RefusalLaws.{unlisted, unlisted-12}
 use Rattle.payload.specs.Textures.{texturesFound}
 use Rattle.payload.specs.Refusals.{EachCall, Refusals, NeverSixteen}
@@ -132,20 +132,24 @@ module _ {ks : List ℕ} where
       body-refuses two s = limited-refuses s two (mapped-refuses (λ x. x .0) (mesh-refuses s))
 
       module _ (six : among 6 ks ≡ true) (eighteen : among 18 ks ≡ true) where
-        item-refuses : (s : List ℕ) (rest : ℕ → ℕ → Verdict (List Mesh)) → ((r p : ℕ) → Refuses ks (rest r p)) → (room : ℕ)
-            (i : Item) → Refuses ks (readItem s rest room i)
-        item-refuses s rest h room listEnd = gives []
-        item-refuses s rest h room (box type body end) = cond-refuses (eqb type meshType) (mesh room) (h room end)
+        item-refuses : (s : List ℕ) (rest : ℕ → ℕ → Verdict (List Mesh)) → ((r p : ℕ) → Refuses ks (rest r p))
+            → (more type : ℕ) (v : Verdict (ℕ × ℕ)) → Refuses ks v → Refuses ks (readItem s rest more (box type v))
+        item-refuses s rest h more type v e =
+            cond-refuses (eqb type meshType) (mesh more) (then-refuses e (λ x. h more (x .1)))
           where
-            mesh : (r : ℕ) → Refuses ks (readMeshBox s rest r body end)
+            mesh : (r : ℕ) → Refuses ks (readMeshBox s rest r v)
             mesh zero = refuses 18 eighteen
-            mesh (suc r) = then-refuses (mesh-refuses (part s body end)) (λ x. then-refuses (h r end) (λ l. gives (x .0 ∷ l)))
+            mesh (suc r) =
+                then-refuses e (λ x.
+                then-refuses (mesh-refuses (part s (x .0) (x .1))) (λ y.
+                then-refuses (h r (x .1)) (λ l. gives (y .0 ∷ l))))
 
-        boxes-refuses : (s : List ℕ) (turns room p : ℕ) → Refuses ks (readBoxes s turns room p)
+        boxes-refuses : (s : List ℕ) (turns more p : ℕ) → Refuses ks (readBoxes s turns more p)
         unfolding readBoxes
-        boxes-refuses s zero room p = gives []
-        boxes-refuses s (suc turns) room p =
-            then-refuses (header-refuses six s p) (item-refuses s (readBoxes s turns) (boxes-refuses s turns) room)
+        boxes-refuses s zero more p = gives []
+        boxes-refuses s (suc turns) more p =
+            header-then three six s p (readItem s (readBoxes s turns) more) (gives [])
+            (item-refuses s (readBoxes s turns) (boxes-refuses s turns) more)
 
         meshes-refuses : (s : List ℕ) → Refuses ks (readMeshes s)
         unfolding readFrom

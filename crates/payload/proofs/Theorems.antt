@@ -21,6 +21,7 @@ use Rattle.payload.specs.MeshRead.{readMeshes}
 use Rattle.payload.specs.MeshDrawing.{drawnNumbers, drawnFloats, drawnRecords, submeshTotal, pointTotal}
 use Rattle.payload.specs.Meshes.{listSize}
 use Rattle.payload.specs.EyeLaws.{EyeLaws}
+use Rattle.payload.specs.LongLaws.{LongLaws}
 use Rattle.payload.specs.TextureLaws.{RecordTextures, TexturesRead}
 use Rattle.payload.specs.Laws.{EquiReads, EquiWrites, CbmpReads, CbmpWrites}
 use Rattle.payload.specs.Laws.{MeshesReads, MeshReads, MeshWrites, TablesRead}
@@ -52,6 +53,7 @@ use Rattle.payload.proofs.MeshWriteProofs as writing
 use Rattle.payload.proofs.WrittenProofs as written
 use Rattle.payload.proofs.MeasureLaws as measure
 use Rattle.payload.proofs.EyeProofs as eye
+use Rattle.payload.proofs.LongProofs as long
 use Rattle.payload.proofs.TextureProofs as texture
 use Rattle.payload.proofs.TextureMarked as texture-cases
 use Rattle.payload.proofs.RefusalProofs as refusal
@@ -113,6 +115,11 @@ map-calls = refusal.map-calls
 
 pub eye-laws : EyeLaws
 eye-laws = eye.eye-laws
+
+-- ---- boxes with a long size, of specs/LongLaws.antt
+
+pub long-laws : LongLaws
+long-laws = long.long-laws
 
 -- ---- the points of each texture, of specs/TextureLaws.antt
 

@@ -10,7 +10,7 @@ use borrow.Author.Tests.{eq-eqb, ne-eqb}
 use Rattle.bits.specs.Verdict.{Verdict, accepted, needs, declined, andThen, mapped}
 use Rattle.bits.specs.Field.{field}
 use Rattle.bits.specs.Number.{widthOf}
-use Rattle.bits.specs.Header.{listEnd, box, headerAt}
+use Rattle.bits.specs.Header.{listEnd, box, sized, headerAt}
 use Rattle.bits.proofs.VerdictLaws.{then-value, mapped-value, mapped-declined}
 use Rattle.bits.specs.Verdict.{limited}
 use Rattle.payload.specs.Mesh.{Submesh, Mesh}
@@ -191,7 +191,7 @@ pub record BoxTurn (s : List ℕ) (p type body end : ℕ) : Type 0 where
   pub rest : WasRead (anyFrom s end)
   pub is : meshesFrom s p ≡ boxRead s type body end ++ meshesFrom s end
 
-pub box-turn : (s : List ℕ) (p type body end : ℕ) → WasRead (anyFrom s p) → headerAt s p ≡ accepted (box type body end) → BoxTurn s p type body end
+pub box-turn : (s : List ℕ) (p type body end : ℕ) → WasRead (anyFrom s p) → headerAt s p ≡ accepted (sized type body end) → BoxTurn s p type body end
 box-turn s p type body end r h = let b = header-value s p type body end h in go (omega (arith, body-after s p, b .2)) (omega (arith, b .0 .least, b .2, b .3)) (omega (arith, b .0 .most, b .3)) (ℕ-discrete type meshType)
   where
     both : (v : Found Mesh) (q : Verdict (List Mesh)) → WasRead (andThen v (λ x. andThen q (λ l. accepted (x .0 ∷ l))))

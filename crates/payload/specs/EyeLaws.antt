@@ -30,12 +30,13 @@ pub record EyeLaws : Type 0 where
       → getD (drawnRecords (x ∷ y ∷ [])) (5 * (length (x .submeshes) + k)) other ≡ 2
   -- more than two meshes have no reading
   pub most : (s : List ℕ) (l : List Mesh) → readMeshes s ≡ accepted l → length l ≤ 2
-  -- after two meshes a mesh box is refused by its header alone, whatever its body holds and whatever follows
+  -- after two meshes a mesh box is refused at its type, whatever its body holds and whatever follows
   pub third : (s : List ℕ) (p : ℕ) (x y : Mesh) → BoxesUpTo s 0 p (x ∷ y ∷ []) → WholeBox s p
       → typeAt s p ≡ meshType → readMeshes s ≡ declined 18
-  -- but its size is judged before its type, as any box's is: 6 where it is below a header's, or reaches past the end
+  -- but a short size is judged before the type, as any box's is: 6 where it is below a header's, 0 too, or reaches past
+  -- the end; a long one comes after the type (specs/LongLaws.antt)
   pub size-first : (s : List ℕ) (p : ℕ) (l : List Mesh) → BoxesUpTo s 0 p l → length l ≤ 2
-      → p + headerBytes ≤ length s → (sizeAt s p < headerBytes) ⊎ (length s < p + sizeAt s p)
+      → p + headerBytes ≤ length s → (sizeAt s p ≡ 1 → ⊥) → (sizeAt s p < headerBytes) ⊎ (length s < p + sizeAt s p)
       → readMeshes s ≡ declined 6
   -- and a fault of the first or the second mesh comes before a third one
   pub earlier-first : (s : List ℕ) (p k : ℕ) (l : List Mesh) → BoxesUpTo s 0 p l → length l < 2 → WholeBox s p

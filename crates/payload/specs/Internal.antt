@@ -211,6 +211,10 @@ boxTotals s type body end t =
     (cond (leb 2 (t .meshes)) (declined 18) (mapped (withBody t) (readMesh (part s body end))))
     (accepted t)
 
+-- the refusal of a box whose long size is refused with k: 18 where it is a third mesh
+abbrev pub boxRefusal : ℕ → ℕ → Totals → ℕ
+boxRefusal type k t = cond (eqb type meshType) (cond (leb 2 (t .meshes)) 18 k) k
+
 -- ---- what the filling pass goes by, and what it leaves
 
 -- the pool word of coordinate number c, in a mesh body

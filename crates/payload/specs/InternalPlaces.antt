@@ -19,7 +19,9 @@ pub data Spot : Type 0 where
 -- a mesh box is it, and another is skipped; `rest` looks on from a place
 abbrev pub nextItem : (ℕ → Spot) → Verdict Item → Spot
 nextItem rest (accepted listEnd) = nowhere
-nextItem rest (accepted (box type body end)) = cond (eqb type meshType) (spot body end) (rest end)
+nextItem rest (accepted (box type (accepted e))) = cond (eqb type meshType) (spot (e .0) (e .1)) (rest (e .1))
+nextItem rest (accepted (box type (needs l))) = nowhere
+nextItem rest (accepted (box type (declined k))) = nowhere
 nextItem rest (needs l) = nowhere
 nextItem rest (declined k) = nowhere
 

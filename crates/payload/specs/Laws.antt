@@ -82,8 +82,8 @@ MeshReads = Reads Mesh BodySpells bodyRead
 abbrev pub Words32 : List ℕ → Type 0
 Words32 l = (i : ℕ) → getD l i 0 < 2 ^ 32
 
--- a lone box of at most 67,108,864 bytes that ends with the byte of its last field; the free bits are 0, those before
--- the submesh count and those after the last field
+-- a lone box with a short size, of at most 67,108,864 bytes, that ends with the byte of its last field; the free bits
+-- are 0, those before the submesh count and those after the last field
 pub record PlainBox (x : Mesh) (s : List ℕ) : Type 0 where
   pub bytes : Bytes s
   pub most : length s ≤ 67108864

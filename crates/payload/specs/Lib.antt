@@ -26,6 +26,7 @@ pub mod MeshDrawing
 pub mod Records
 pub mod Firsts
 pub mod EyeLaws
+pub mod LongLaws
 pub mod Textures
 pub mod Meshes
 pub mod Tables

@@ -1,9 +1,9 @@
 -- m1 of document 01: a list of one mesh box, as it is read, drawn and written, with damaged copies of it, a list of
--- two, and a third mesh.
+-- two, a third mesh, and long sizes.
 use Prim.Native.Nat.{ℕ, _+_}
 use mathlib.Core.Path.{_≡_}
 use mathlib.Core.List.{List, [], _∷_, _++_}
-use lib.ListN.{take, set}
+use lib.ListN.{take, drop, set}
 use Rattle.bits.specs.Verdict.{accepted, declined}
 use Rattle.payload.specs.Mesh.{Mesh}
 use Rattle.payload.specs.MeshRead.{readMeshes}
@@ -33,6 +33,12 @@ twoBoxes =
 
 abbrev pub twoMeshes : List ℕ
 twoMeshes = oneBox ++ oneBox
+
+-- its box with a long size, of 48
+abbrev pub longOne : List ℕ
+longOne =
+    (0x00 ∷ 0x00 ∷ 0x00 ∷ 0x01 ∷ 0x6D ∷ 0x65 ∷ 0x73 ∷ 0x68 ∷ 0x00 ∷ 0x00 ∷ 0x00 ∷ 0x00 ∷ 0x00 ∷ 0x00 ∷ 0x00 ∷ 0x30 ∷ [])
+    ++ drop 8 oneBox
 
 -- its first 19 bytes, with that size: the second word is cut off
 abbrev pub cutBox : List ℕ
@@ -68,6 +74,24 @@ pub record MeshMarked : Type 0 where
   pub third-after : readMeshes (oneBox ++ (set oneBox 11 0x00 ++ oneBox)) ≡ declined 7
   -- a box of another type between them does not count
   pub third-type : readMeshes (oneBox ++ (set oneBox 4 0x66 ++ oneBox)) ≡ accepted (oneMesh ∷ oneMesh ∷ [])
+  -- a long size, alone and before a short one, and one of a box that is skipped
+  pub long : readMeshes longOne ≡ accepted (oneMesh ∷ [])
+  pub long-short : readMeshes (longOne ++ oneBox) ≡ accepted (oneMesh ∷ oneMesh ∷ [])
+  pub long-skipped : readMeshes (set longOne 4 0x66 ++ oneBox) ≡ accepted (oneMesh ∷ [])
+  -- of 15, of 49, and of 48 and 2^63; of 16, so that the body is empty
+  pub long-small : readMeshes (set longOne 15 0x0F) ≡ declined 6
+  pub long-past : readMeshes (set longOne 15 0x31) ≡ declined 6
+  pub long-high : readMeshes (set longOne 8 0x80) ≡ declined 6
+  pub long-empty : readMeshes (set longOne 15 0x10) ≡ declined 3
+  -- cut off inside it, at its first byte and at its last; before the type's last byte the list ends
+  pub long-cut : readMeshes (take 15 longOne) ≡ declined 3
+  pub long-cut-first : readMeshes (take 8 longOne) ≡ declined 3
+  pub long-none : readMeshes (take 7 longOne) ≡ accepted []
+  -- a third mesh, by its type, though its long size is cut off or small
+  pub third-cut : readMeshes (twoMeshes ++ take 8 longOne) ≡ declined 18
+  pub third-small : readMeshes (twoMeshes ++ set longOne 15 0x0F) ≡ declined 18
+  -- a size of 0
+  pub size-none : readMeshes (set oneBox 3 0x00) ≡ declined 6
   -- the last byte is missing: the size reaches past the end
   pub m1-past : readMeshes (take 39 oneBox) ≡ declined 6
   -- the second point goes below 0; the third is 3, of three vertices

@@ -84,18 +84,19 @@ readMesh s =
 
 -- ---- a list of boxes, at most two of them meshes
 
--- a mesh box where so many more meshes may come: 18 where none may, which is told at its type; `rest` reads on from a
--- place
-abbrev pub readMeshBox : List ℕ → (ℕ → ℕ → Verdict (List Mesh)) → ℕ → ℕ → ℕ → Verdict (List Mesh)
-readMeshBox s rest zero body end = declined 18
-readMeshBox s rest (suc more) body end =
-    andThen (readMesh (part s body end)) (λ x. andThen (rest more end) (λ l. accepted (x .0 ∷ l)))
+-- a mesh box where so many more meshes may come: 18 where none may, which is told at its type, before a long size;
+-- `rest` reads on from a place
+abbrev pub readMeshBox : List ℕ → (ℕ → ℕ → Verdict (List Mesh)) → ℕ → Verdict (ℕ × ℕ) → Verdict (List Mesh)
+readMeshBox s rest zero extent = declined 18
+readMeshBox s rest (suc more) extent =
+    andThen extent (λ e.
+    andThen (readMesh (part s (e .0) (e .1))) (λ x. andThen (rest more (e .1)) (λ l. accepted (x .0 ∷ l))))
 
 -- a box of another type is skipped
 abbrev pub readItem : List ℕ → (ℕ → ℕ → Verdict (List Mesh)) → ℕ → Item → Verdict (List Mesh)
 readItem s rest more listEnd = accepted []
-readItem s rest more (box type body end) =
-    cond (eqb type meshType) (readMeshBox s rest more body end) (rest more end)
+readItem s rest more (box type extent) =
+    cond (eqb type meshType) (readMeshBox s rest more extent) (andThen extent (λ e. rest more (e .1)))
 
 -- each box is 8 bytes or more, so as many turns as there are bytes are enough
 unfoldable pub readBoxes : List ℕ → ℕ → ℕ → ℕ → Verdict (List Mesh)

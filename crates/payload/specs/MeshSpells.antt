@@ -1,6 +1,8 @@
 -- Kind 2: how a mesh list spells a payload, place by place. What is free is not mentioned.
 use Prim.Native.Nat.{ℕ, _+_, _-_, _*_, _/_, _≤_, _<_}
 use mathlib.Core.Path.{_≡_}
+use mathlib.Core.Bool.{Bool, cond}
+use lib.Dec.{eqb}
 use mathlib.Core.List.{List, [], _∷_}
 use lib.ListN.{length, getD, take, drop}
 use Rattle.bits.specs.Field.{field}
@@ -94,12 +96,19 @@ sizeAt s p = field s (8 * p) 32
 abbrev pub typeAt : List ℕ → ℕ → ℕ
 typeAt s p = field s (8 * (p + 4)) 32
 
+-- a size of 1 says that the true one, the long size, follows the type, in 8 bytes
+abbrev pub isLong : List ℕ → ℕ → Bool
+isLong s p = eqb (sizeAt s p) 1
+
+abbrev pub longSizeAt : List ℕ → ℕ → ℕ
+longSizeAt s p = field s (8 * (p + headerBytes)) 64
+
 -- where the body of the box at byte p begins, and where the box ends, and the next begins
 abbrev pub bodyAt : List ℕ → ℕ → ℕ
-bodyAt s p = p + headerBytes
+bodyAt s p = p + headerBytes + cond (isLong s p) 8 0
 
 abbrev pub endAt : List ℕ → ℕ → ℕ
-endAt s p = p + sizeAt s p
+endAt s p = p + cond (isLong s p) (longSizeAt s p) (sizeAt s p)
 
 -- 'mesh'
 abbrev pub meshType : ℕ
@@ -124,7 +133,7 @@ pub data Boxes (s : List ℕ) (End : ℕ → Type 0) : ℕ → List Mesh → Typ
   skips : {p : ℕ} {l : List Mesh} → WholeBox s p → (typeAt s p ≡ meshType → ⊥) → Boxes s End (endAt s p) l
       → Boxes s End p l
 
--- up to the free bytes at the payload's end, fewer than a header's
+-- up to the free bytes at the payload's end, fewer than a header has at least
 abbrev pub BoxesSpell : List ℕ → ℕ → List Mesh → Type 0
 BoxesSpell s p l = Boxes s (λ q. (q ≤ length s) × (length s < q + headerBytes)) p l
 

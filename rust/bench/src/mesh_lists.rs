@@ -1,6 +1,6 @@
 //! Mesh lists to time: of one mesh or of two.
 
-use spell::{Mesh, Part, Spelled, Submesh, FIELDS};
+use spell::{Mesh, Part, Size, Spelled, Submesh, FIELDS};
 
 use crate::random::Random;
 
@@ -67,7 +67,7 @@ fn up_and_down(random: &mut Random, count: usize, limit: i64) -> Vec<i64> {
 /// The list of a mesh alone.
 pub fn lone(mesh: Mesh) -> Vec<u8> {
     let mut one = Spelled::default();
-    one.push(&Part::Mesh(mesh));
+    one.push(&Part::Mesh(mesh), Size::Short);
     one.bytes
 }
 

@@ -36,7 +36,8 @@ pub enum Refusal {
     Version,
     /// 5: a cbmp layout is not 0 or its padding is above 4,096.
     CubeLayout,
-    /// 6: a box size is below 8 or reaches past the payload's end.
+    /// 6: a box size is below 8, a long one below 16, or it reaches past the payload's end. A size of 1 stands for a
+    /// long one.
     BoxSize,
     /// 7: a coordinate count is not 1 to 10,000, a vertex count not 1 to 32,000, a submesh count 0, or an index count
     /// not 1 to 128,000.
@@ -129,7 +130,9 @@ impl Refusal {
             }
             Refusal::Version => "the version byte is not 0",
             Refusal::CubeLayout => "the cube map's layout is not 0 or its padding is above 4,096",
-            Refusal::BoxSize => "a box size is below 8 or reaches past the payload's end",
+            Refusal::BoxSize => {
+                "a box size is below 8 but for 1, a long one below 16, or it reaches past the payload's end"
+            }
             Refusal::MeshCount => {
                 "a coordinate count is not 1 to 10,000, a vertex count not 1 to 32,000, \
                  a submesh count 0, or an index count not 1 to 128,000"

@@ -30,6 +30,11 @@ fn boxed(body: &[u8]) -> Vec<u8> {
     [&size.to_be_bytes(), &b"mesh"[..], body].concat()
 }
 
+/// A box with this long size.
+fn long_box(box_type: &[u8; 4], size: u64, body: &[u8]) -> Vec<u8> {
+    [&[0, 0, 0, 1][..], box_type, &size.to_be_bytes(), body].concat()
+}
+
 /// A body of one coordinate, one vertex, and one submesh with one point.
 fn good_body() -> Vec<u8> {
     vec![
@@ -77,6 +82,7 @@ fn bits(met: &mut Met) {
     met.refused("BitCursor::read_two", 3, bit.read_two(&[0; 2], 9));
     met.refused("BitCursor::read_two", 16, bit.read_two(&[0; 9], 33));
     met.refused("run_on", 8, run_on(0, 1, 1));
+    met.refused("box_header", 3, box_header(b"\0\0\0\x01mesh.......", byte));
     met.refused("box_header", 6, box_header(b"\0\0\0\x09mesh", byte));
     met.refused("put_word", 12, put_word(&mut [0; 3], 0, 0));
     met.refused("put_field", 12, put_field(&mut [0], 0, 9, 0));
@@ -301,7 +307,7 @@ fn a_third_mesh_is_refused_at_its_type() {
     let mesh = boxed(&good_body());
     let skipped = b"\0\0\0\x08free";
     let [bad_mesh, bad_size] = [&b"\0\0\0\x08mesh"[..], b"\0\0\0\x07mesh"];
-    let short = Some(12);
+    let bad_long = &long_box(b"mesh", 15, &[]);
     for (number, boxes) in [
         (Some(18), [&mesh[..], &mesh, &mesh, skipped]),
         (Some(18), [&mesh, skipped, &mesh, bad_mesh]),
@@ -311,9 +317,60 @@ fn a_third_mesh_is_refused_at_its_type() {
         (Some(3), [bad_mesh, &mesh, &mesh, &mesh]),
         (None, [skipped, &mesh, skipped, &mesh]),
         (None, [&mesh, skipped, skipped, skipped]),
+        // before its long size
+        (Some(18), [&mesh, &mesh, bad_long, &mesh]),
+        (Some(18), [&mesh, skipped, &mesh, &bad_long[..8]]),
+        (Some(6), [&mesh, bad_long, &mesh, &mesh]),
     ] {
-        let lent_none = number.or(short);
-        let due = [number, number, lent_none, lent_none, lent_none, lent_none];
-        assert_eq!(by_each_reader(&boxes.concat()), due, "{boxes:02x?}");
+        assert_eq!(by_each_reader(&boxes.concat()), due(number), "{boxes:02x?}");
+    }
+}
+
+/// What each call on mesh lists is refused with where this is wrong with the list, or nothing and no buffer is lent.
+fn due(number: Option<u8>) -> [Option<u8>; 6] {
+    let lent_none = number.or(Some(12));
+    [number, number, lent_none, lent_none, lent_none, lent_none]
+}
+
+/// Of a mesh and of a box that is skipped, behind a mesh with a long size that is right.
+#[test]
+fn long_sizes_at_their_limits() {
+    let body = good_body();
+    let right = 16 + body.len() as u64;
+    let good = long_box(b"mesh", right, &body);
+    let past = (1 << 32) + right;
+    for (size, mesh, skipped) in [
+        (right, None, None),
+        (0, Some(6), Some(6)),
+        (15, Some(6), Some(6)),
+        // an empty body; that of the skipped box begins with size 1, type 0 and a long size past the end
+        (16, Some(3), Some(6)),
+        (right - 1, Some(3), None),
+        (right + 1, Some(6), Some(6)),
+        (past, Some(6), Some(6)),
+        (u64::MAX, Some(6), Some(6)),
+    ] {
+        for (box_type, number) in [(b"mesh", mesh), (b"free", skipped)] {
+            let list = [&good[..], &long_box(box_type, size, &body)].concat();
+            assert_eq!(by_each_reader(&list), due(number), "{box_type:?} {size}");
+        }
+    }
+}
+
+/// With fewer than 8 bytes the list ends; below 16 the long size is not complete.
+#[test]
+fn a_long_size_is_cut() {
+    let good = boxed(&good_body());
+    for box_type in [b"mesh", b"free"] {
+        let whole = long_box(box_type, 17, &[]);
+        for n in 0..=16 {
+            let number = match n {
+                0..8 => None,
+                8..16 => Some(3),
+                _ => Some(6),
+            };
+            let list = [&good, &whole[..n]].concat();
+            assert_eq!(by_each_reader(&list), due(number), "{box_type:?} {n}");
+        }
     }
 }

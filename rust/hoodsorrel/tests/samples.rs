@@ -119,6 +119,15 @@ fn points_of_two_eyes() {
     assert_eq!(drawing.points_of(largest), None);
 }
 
+/// A long size and a short one are two spellings of the same.
+#[test]
+fn two_eyes_with_long_sizes() {
+    let drawing = |name| Drawing::of(MESHES, &sample(name), &Given::default()).expect("a list");
+    let [short, long] = ["two_eyes.bin", "long_sizes.bin"].map(drawing);
+    assert_eq!((short.numbers, short.floats), (long.numbers, long.floats));
+    assert_eq!((short.records, short.named), (long.records, long.named));
+}
+
 #[test]
 fn a_crop_and_a_cube() {
     let given = Given::default();

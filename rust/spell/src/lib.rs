@@ -1,9 +1,11 @@
 //! Spells payloads of kind 2 from descriptions, right ones and wrong ones.
 
 mod bits;
+mod headers;
 mod tables;
 
 pub use bits::{overwrite, read_word, BitWriter};
+pub use headers::{header, long_header, Size};
 pub use tables::{Tables, ROW};
 
 pub const MESH: [u8; 4] = *b"mesh";
@@ -47,29 +49,34 @@ pub enum Part {
 #[derive(Clone, Default)]
 pub struct Spelled {
     pub bytes: Vec<u8>,
+    /// Where the boxes begin, with their sizes of 4 bytes.
     pub sizes: Vec<usize>,
+    /// The sizes of 8 bytes.
+    pub long_sizes: Vec<usize>,
     pub counts: Vec<usize>,
 }
 
 impl Spelled {
-    pub fn push(&mut self, part: &Part) {
+    pub fn push(&mut self, part: &Part, size: Size) {
         match part {
-            Part::Mesh(mesh) => self.push_box(MESH, &body(mesh)),
+            Part::Mesh(mesh) => self.push_box(MESH, &body(mesh), size),
             Part::Other(box_type, bytes) => {
                 let body = Spelled {
                     bytes: bytes.clone(),
                     ..Spelled::default()
                 };
-                self.push_box(*box_type, &body);
+                self.push_box(*box_type, &body, size);
             }
         }
     }
 
-    pub fn push_box(&mut self, box_type: [u8; 4], body: &Spelled) {
-        self.sizes.push(8 * self.bytes.len());
-        self.bytes
-            .extend((8 + body.bytes.len() as u32).to_be_bytes());
-        self.bytes.extend(box_type);
+    pub fn push_box(&mut self, box_type: [u8; 4], body: &Spelled, size: Size) {
+        let start = 8 * self.bytes.len();
+        self.sizes.push(start);
+        if size == Size::Long {
+            self.long_sizes.push(start + 8 * Size::Short.header());
+        }
+        self.bytes.extend(header(box_type, body.bytes.len(), size));
         let start = 8 * self.bytes.len();
         self.counts
             .extend(body.counts.iter().map(|place| start + place));
@@ -110,8 +117,8 @@ pub fn body(mesh: &Mesh) -> Spelled {
     bytes.extend(&mesh.rest);
     Spelled {
         bytes,
-        sizes: Vec::new(),
         counts,
+        ..Spelled::default()
     }
 }
 

@@ -197,6 +197,13 @@ fn draw_boxes(s: &[u8], numbers: &mut [u16], words: &mut [u32])
                 to = draw_box(s, fourcc, body, end, numbers, words, to);
                 at = end;
             }
+            // Nor one of these.
+            BoxHeader::Refused {
+                fourcc: _,
+                number: _,
+            } => {
+                return;
+            }
         }
     }
 }

@@ -17,8 +17,8 @@ ghost use Rattle.bits.specs.Verdict.{limited};
 ghost use Rattle.payload.specs.MeshRead.{many, readWord, readSubmesh, readSubmeshes, afterPoolCount, readMesh};
 ghost use Rattle.payload.specs.MeshRead.{readMeshes};
 ghost use Rattle.payload.specs.Internal.{afterCounts, PoolThere, SubmeshPlace, pointsEnd, submeshesSize};
-ghost use Rattle.payload.specs.Internal.{bodySize, Room, withBody, boxTotals, noTotals, totalsOf, poolSays};
-ghost use Rattle.payload.specs.Internal.{nothing, submeshSays, submeshesSays, bodySays, totalsSays};
+ghost use Rattle.payload.specs.Internal.{bodySize, Room, withBody, boxTotals, boxRefusal, noTotals, totalsOf};
+ghost use Rattle.payload.specs.Internal.{poolSays, nothing, submeshSays, submeshesSays, bodySays, totalsSays};
 ghost use Rattle.payload.specs.Meshes.{listSize, measuredSays};
 ghost use Rattle.payload.specs.Tables.{tableLengths, bodyRead, tableLengthsSays};
 
@@ -255,6 +255,19 @@ fn add_box(s: &[u8], fourcc: u32, body: usize, end: usize, t: Totals) -> Totalle
     add_body(&s[body..end], t, body)
 }
 
+// The refusal of a box by its long size: a third mesh box is refused before that, by its type.
+fn refused_box(fourcc: u32, number: u8, t: Totals) -> u8
+    ensures { λ r. ⌜ r ≡ boxRefusal fourcc number t ⌝ }
+{
+    if fourcc != MESH {
+        return number;
+    }
+    if t.meshes < 2 {
+        return number;
+    }
+    18
+}
+
 // The totals of a list of boxes.
 fn measure_list(s: &[u8]) -> Totalled
     requires { ⌜ length (now s) ≤ 67108864 ⌝ }
@@ -285,6 +298,9 @@ fn measure_list(s: &[u8]) -> Totalled
                         at = end;
                     }
                 }
+            }
+            BoxHeader::Refused { fourcc, number } => {
+                return Totalled::Declined(refused_box(fourcc, number, t));
             }
         }
     }

@@ -32,6 +32,13 @@ pub(in crate::mesh) fn next_mesh(s: &[u8], from: usize) -> NextMesh
                 }
                 at = end;
             }
+            // Nor one of these.
+            BoxHeader::Refused {
+                fourcc: _,
+                number: _,
+            } => {
+                return NextMesh::End;
+            }
         }
     }
 }

@@ -157,6 +157,13 @@ pub(in crate::mesh) fn record_boxes(s: &[u8], meshes: usize, records: &mut [u32]
                 to = record_box(s, fourcc, body, end, records, to);
                 at = end;
             }
+            // Nor one of these.
+            BoxHeader::Refused {
+                fourcc: _,
+                number: _,
+            } => {
+                return;
+            }
         }
     }
 }

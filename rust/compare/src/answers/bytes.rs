@@ -26,6 +26,7 @@ pub fn add(list: &mut List, random: &mut Random) {
         }
     }
     sizes(list, random);
+    long_sizes(list, random);
     for _ in 0..LISTS {
         let data = headers::list(random);
         for at in [0, any(random, data.len()), any(random, data.len())] {
@@ -82,6 +83,22 @@ fn sizes(list: &mut List, random: &mut Random) {
                 data[at..at + 4].copy_from_slice(&size.to_be_bytes());
                 header(list, &data, at);
             }
+        }
+    }
+}
+
+/// Long sizes around the same, whole and cut.
+fn long_sizes(list: &mut List, random: &mut Random) {
+    for rest in [8, 9, 12, 15] {
+        for at in [0, 5] {
+            let (data, _) = headers::with_long_size(random, at + rest, at, rest as u64);
+            header(list, &data, at);
+        }
+    }
+    for at in [0, 5] {
+        for size in headers::long_sizes_around(at, 23) {
+            let (data, _) = headers::with_long_size(random, at + 23, at, size);
+            header(list, &data, at);
         }
     }
 }

@@ -1,6 +1,6 @@
 //! The calls on mesh lists.
 
-use spell::{overwrite, Part};
+use spell::{long_header, overwrite, Part, Size, MESH};
 
 use crate::answers::line::{bounded, lent, List, MOST_DRAWN};
 use crate::answers::{one_of, thinned};
@@ -8,8 +8,8 @@ use crate::inputs::random::Random;
 use crate::lent::tables::{lengths, refused_lengths};
 use crate::mesh::damage::{damaged, every_bit, every_count, every_size, every_stray_of, stray_of};
 use crate::mesh::lists::{due, measured, parsed, recorded, Due};
-use crate::mesh::payloads::{self, lone, m1, sized};
-use crate::mesh::plans::{every_plan_of, planned_list, Planned, PLANNED};
+use crate::mesh::payloads::{self, lone, lone_of, m1, sized};
+use crate::mesh::plans::{every_cut_plan_of, every_plan_of, planned_list, Planned, CUT, PLANNED};
 use crate::mesh::thirds::every_number;
 use crate::mesh::words::{every_list, NOT_FINITE};
 
@@ -17,12 +17,14 @@ use crate::mesh::words::{every_list, NOT_FINITE};
 const RANDOM: usize = 12;
 const COPIES: usize = 2;
 /// The longest random list, and the longest list by a plan.
-const LONG: usize = 180;
-const LONG_PLANNED: usize = 250;
-/// Calls that do not take all lists with a fault take every so manieth: no even number, as plans go by eights.
-pub const STEP: usize = 5;
+const LONG: usize = 150;
+const LONG_PLANNED: usize = 220;
+/// Calls that do not take all lists with a fault take every so manieth: plans go by tens, and long sizes by twelves.
+pub const STEP: usize = 7;
+/// Of the faults of a mesh with a long size every so manieth is taken.
+const LONG_STEP: usize = 13;
 /// Skipped boxes around each of up to five meshes.
-const SKIPPED: [usize; 3] = [0, 1, 9];
+const SKIPPED: [usize; 2] = [0, 2];
 /// Pool words, vertices and points. Some fill the buffers, some need longer ones.
 const LARGE: [(usize, usize, &[usize]); 8] = [
     (257, 3, &[4, 1]),
@@ -58,7 +60,7 @@ pub fn add(list: &mut List, random: &mut Random) {
         records(list, &payload, &due, one_of(random, &lent)[2]);
         measure(list, &payload, &due);
     }
-    for payload in faults_of_m1().into_iter().chain(damages(random)) {
+    for payload in [faults_of_m1(), longs(), damages(random)].concat() {
         let due = due(&payload);
         let lent = every_lent(random, &due);
         parse(list, &payload, &due, one_of(random, &lent));
@@ -73,6 +75,7 @@ pub fn add(list: &mut List, random: &mut Random) {
 pub fn wholes(random: &mut Random) -> Vec<Vec<u8>> {
     let mut payloads = vec![Vec::new(), vec![0xFF; 7], lone(&m1())];
     payloads.push([lone(&m1()), lone(&m1())].concat());
+    payloads.push([lone_of(&m1(), Size::Long), lone(&m1())].concat());
     payloads.extend((0..4).map(|_| small(random).spelled().bytes));
     payloads
 }
@@ -83,13 +86,15 @@ pub fn large(random: &mut Random) -> Vec<Vec<u8>> {
     LARGE.map(mesh).into()
 }
 
-/// Document 01's m1: cut, with other counts and sizes, with bits turned over, with numbers that leave
-/// their range, and with words at the limits of what is finite.
+/// Document 01's m1, and some of the same with a long size: cut, with other counts and sizes, with bits turned over,
+/// with numbers that leave their range, and with words at the limits of what is finite.
 pub fn faults_of_m1() -> Vec<Vec<u8>> {
-    let list = payloads::List {
-        parts: vec![Part::Mesh(m1())],
-        rest: Vec::new(),
-    };
+    let long = faults_of(Size::Long).into_iter().step_by(LONG_STEP);
+    faults_of(Size::Short).into_iter().chain(long).collect()
+}
+
+fn faults_of(size: Size) -> Vec<Vec<u8>> {
+    let list = payloads::List::of(vec![Part::Mesh(m1())], size);
     let spelled = list.spelled();
     let bytes = &spelled.bytes;
     let mut payloads: Vec<Vec<u8>> = (1..bytes.len()).map(|n| bytes[..n].to_vec()).collect();
@@ -113,7 +118,8 @@ pub fn damages(random: &mut Random) -> Vec<Vec<u8>> {
         payloads.push(stray_of(random, &list));
         payloads.push(spelled.bytes);
     }
-    payloads.extend(every_plan_of(2).map(|plan| small_planned(random, &plan)));
+    let plans = every_plan_of(2).chain(every_cut_plan_of(1));
+    payloads.extend(plans.map(|plan| small_planned(random, &plan)));
     payloads
 }
 
@@ -128,6 +134,16 @@ pub fn thirds(random: &mut Random) -> Vec<Vec<u8>> {
             &[skipped, mesh, skipped, mesh, skipped, planned],
             &[mesh, mesh, mesh, planned],
             &[mesh, planned, mesh, mesh],
+        ] {
+            payloads.push(small_planned(random, plan));
+        }
+    }
+    for cut in CUT {
+        for plan in [
+            &[cut][..],
+            &[mesh, cut],
+            &[mesh, mesh, cut],
+            &[skipped, mesh, skipped, mesh, skipped, cut],
         ] {
             payloads.push(small_planned(random, plan));
         }
@@ -150,6 +166,23 @@ fn sizes_of_third() -> Vec<Vec<u8>> {
         three
     };
     sizes.map(with_size).into()
+}
+
+/// Long sizes: of a mesh in each place and of a box that is skipped, each with sizes at the limits and with cuts of the
+/// header.
+pub fn longs() -> Vec<Vec<u8>> {
+    let body = spell::body(&m1()).bytes;
+    let right = (Size::Long.header() + body.len()) as u64;
+    let mut payloads = Vec::new();
+    for (meshes, box_type) in [(0, MESH), (1, MESH), (2, MESH), (0, *b"free")] {
+        let before = lone(&m1()).repeat(meshes);
+        let list = |size| [&before[..], &long_header(box_type, size), &body].concat();
+        let near = [0, 15, 16, right - 1, right, right + 1];
+        let far = [(1 << 32) + right, 1 << 63, u64::MAX];
+        payloads.extend(near.into_iter().chain(far).map(list));
+        payloads.extend([8, 15, 16].map(|n| list(16)[..before.len() + n].to_vec()));
+    }
+    payloads
 }
 
 fn small(random: &mut Random) -> payloads::List {

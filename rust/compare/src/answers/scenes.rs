@@ -90,7 +90,12 @@ fn mesh_lists(list: &mut List, random: &mut Random) {
         lists::thirds(random),
     ]
     .concat();
-    let faulty = [lists::faults_of_m1(), lists::damages(random)].concat();
+    let faulty = [
+        lists::faults_of_m1(),
+        lists::longs(),
+        lists::damages(random),
+    ]
+    .concat();
     payloads.extend(faulty.into_iter().step_by(lists::STEP));
     for payload in payloads {
         let given = any_given(random);

@@ -1,7 +1,7 @@
 //! The points of each texture of a mesh list.
 
 use crate::answers::line::{lent, List};
-use crate::answers::lists::{damages, faults_of_m1, thirds, wholes, STEP};
+use crate::answers::lists::{damages, faults_of_m1, longs, thirds, wholes, STEP};
 use crate::answers::one_of;
 use crate::inputs::random::Random;
 use crate::mesh::payloads;
@@ -23,6 +23,7 @@ pub fn add(list: &mut List, random: &mut Random) {
     );
     all.extend((0..RANDOM).map(|_| again(random)));
     all.extend(thirds(random));
+    all.extend(longs().into_iter().step_by(STEP));
     all.extend(faults_of_m1().into_iter().step_by(STEP));
     all.extend(damages(random).into_iter().step_by(STEP));
     for payload in all {

@@ -24,7 +24,7 @@ const COUNTS: [u32; 14] = [
     0xFFFF_FFFF,
 ];
 /// Words to put over sizes.
-const SIZES: [u32; 7] = [0, 1, 7, 8, 9, 0x8000_0008, 0xFFFF_FFFF];
+const SIZES: [u32; 10] = [0, 1, 7, 8, 9, 15, 16, 17, 0x8000_0008, 0xFFFF_FFFF];
 
 /// What a list and a lone body share: every cut, other counts, and every bit turned over.
 pub fn every_byte(spelled: &Spelled, mut each: impl FnMut(&[u8])) {
@@ -82,13 +82,21 @@ pub fn every_bit(bytes: &[u8], mut each: impl FnMut(&[u8])) {
     }
 }
 
+/// The words of all sizes: a long one has two.
+fn size_words(spelled: &Spelled) -> Vec<usize> {
+    let long = spelled.long_sizes.iter();
+    let words = long.flat_map(|place| [*place, place + 32]);
+    spelled.sizes.iter().copied().chain(words).collect()
+}
+
 /// Every box with every size up to past the end, and with the body cut anywhere.
 pub fn every_size(list: &List, mut each: impl FnMut(&[u8])) {
     let spelled = list.spelled();
     let mut bytes = spelled.bytes.clone();
-    for &place in &spelled.sizes {
+    for place in size_words(&spelled) {
         let size = read_word(&bytes, place);
-        let past = (bytes.len() - place / 8) as u32 + 2;
+        // The second word of a long size stands 12 bytes behind its box's start.
+        let past = (bytes.len() - place / 8) as u32 + 14;
         for other in (0..=past).chain(SIZES) {
             overwrite(&mut bytes, place, other);
             each(&bytes);
@@ -158,13 +166,17 @@ pub fn stray(random: &mut Random, mesh: &mut Mesh) {
 /// The same in one mesh of a list, if there is one.
 pub fn stray_of(random: &mut Random, list: &List) -> Vec<u8> {
     let mut list = list.clone();
+    stray_list(random, &mut list);
+    list.spelled().bytes
+}
+
+pub fn stray_list(random: &mut Random, list: &mut List) {
     if !list.parts.is_empty() {
         let place = random.below(list.parts.len());
         if let Part::Mesh(mesh) = &mut list.parts[place] {
             stray(random, mesh);
         }
     }
-    list.spelled().bytes
 }
 
 /// A copy with one or two damages of any kind.
@@ -180,7 +192,7 @@ pub fn damaged(random: &mut Random, spelled: &Spelled) -> Vec<u8> {
             3 => bytes[place] = random.word() as u8,
             4 => bytes.truncate(place),
             5 => bytes.insert(place, random.word() as u8),
-            6 => replace(random, &mut bytes, &spelled.sizes, &SIZES),
+            6 => replace(random, &mut bytes, &size_words(spelled), &SIZES),
             _ => replace(random, &mut bytes, &spelled.counts, &COUNTS),
         }
     }

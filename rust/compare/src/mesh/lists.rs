@@ -1,16 +1,17 @@
 //! Mesh lists: drawn, measured, and their records alone.
 
 use reference::mesh::{self, Projection};
-use spell::{Mesh, Part, Spelled};
+use spell::{Mesh, Part, Size, Spelled};
 
 use crate::inputs::payloads::shown;
 use crate::inputs::random::Random;
 use crate::lent::answer::Answer;
 use crate::lent::tables::{self, lengths, refused_lengths, Table};
-use crate::mesh::damage::{damaged, every_byte, every_size, every_stray_of, stray_of};
+use crate::mesh::damage::{damaged, every_byte, every_size, every_stray_of, stray_list, stray_of};
 use crate::mesh::drawing::Drawing;
+use crate::mesh::longs::every_long;
 use crate::mesh::model;
-use crate::mesh::payloads::{large_counts, lone, mesh, sized, List};
+use crate::mesh::payloads::{large_counts, lone, m1, mesh, sized, List};
 use crate::mesh::plans::{every_longest, every_plan, first_fault, planned_list};
 use crate::mesh::thirds::{every_number, every_third, SKIPPED};
 use crate::mesh::words::{every_list, spoil_list, NOT_FINITE};
@@ -23,6 +24,10 @@ const NAME: &str = "meshes";
 const LISTS: usize = 60;
 /// So many meshes are the third of a list.
 const THIRDS: usize = 12;
+/// So many stand in boxes whose long size is at a limit.
+const LONGS: usize = 12;
+/// So many lists are spelled with every choice of sizes.
+const SPELLINGS: usize = 4000;
 /// So many lists are made by each plan.
 const PLANS: usize = 8;
 /// So many lists are taken with some damaged copies.
@@ -43,6 +48,7 @@ struct Lists {
     records: Tally,
     beyond: Tally,
     order: Tally,
+    spellings: Tally,
 }
 
 pub fn run(options: &Options) -> Vec<Tally> {
@@ -54,6 +60,12 @@ pub fn run(options: &Options) -> Vec<Tally> {
     }
     for _ in 0..THIRDS * times {
         lists.thirds();
+    }
+    for _ in 0..LONGS * times {
+        lists.longs();
+    }
+    for _ in 0..SPELLINGS * times {
+        lists.spellings();
     }
     for _ in 0..PLANS * times {
         lists.plans();
@@ -70,9 +82,10 @@ pub fn run(options: &Options) -> Vec<Tally> {
         records,
         beyond,
         order,
+        spellings,
         ..
     } = lists;
-    vec![model, parsed, measured, records, beyond, order]
+    vec![model, parsed, measured, records, beyond, order, spellings]
 }
 
 impl Lists {
@@ -95,11 +108,16 @@ impl Lists {
             records: tally("meshes records", "the same counts, records and refusals"),
             beyond: tally(
                 "meshes beyond the Rust",
-                "more than 65536 submeshes or 67108864 bytes, a word not finite or a third mesh, against the model",
+                "more than 65536 submeshes or 67108864 bytes, a word not finite, a third mesh or a long size, \
+                 against the model",
             ),
             order: tally(
                 "meshes order",
                 "the model's refusal against the first of the faults in payload order",
+            ),
+            spellings: tally(
+                "meshes spellings",
+                "lists with any of their sizes long against what is due to the same with short ones",
             ),
         }
     }
@@ -137,6 +155,36 @@ impl Lists {
         every_number(&mesh, &SKIPPED, |payload, first| {
             self.check_order(payload, first)
         });
+    }
+
+    /// Document 01's m1, and any mesh.
+    fn longs(&mut self) {
+        for mesh in [m1(), mesh(&mut self.random)] {
+            every_long(&mesh, |payload, first| self.check_order(payload, first));
+        }
+    }
+
+    /// Of a list without a fault, and of one with a fault in a body or with a third mesh.
+    fn spellings(&mut self) {
+        let list = List::random(&mut self.random);
+        self.every_spelling(&list);
+        let mut faulty = match self.random.below(2) {
+            0 => list,
+            _ => List::crowded(&mut self.random),
+        };
+        stray_list(&mut self.random, &mut faulty);
+        self.every_spelling(&faulty);
+    }
+
+    /// The first spelling has short sizes, so that what is due is the Rust's where it is asked at all.
+    fn every_spelling(&mut self, list: &List) {
+        let mut due_of_first = None;
+        for payload in list.every_spelling() {
+            let due = due_of_first.get_or_insert_with(|| due(&payload));
+            parse(&mut self.spellings, &mut self.random, &payload, due);
+            measure(&mut self.spellings, &payload, due);
+            records(&mut self.spellings, &mut self.random, &payload, due);
+        }
     }
 
     /// A mesh, and a word that is not finite.
@@ -192,8 +240,8 @@ impl Lists {
         }
         let parts = (0..MANY_MESHES).map(|_| Part::Mesh(mesh(&mut self.random)));
         let parts = parts.collect();
-        let rest = Vec::new();
-        self.check_order(&List { parts, rest }.spelled().bytes, Some(THIRD_MESH));
+        let list = List::of(parts, Size::Short).spelled().bytes;
+        self.check_order(&list, Some(THIRD_MESH));
     }
 
     fn check(&mut self, payload: &[u8]) {

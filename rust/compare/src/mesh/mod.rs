@@ -4,6 +4,7 @@ pub mod body;
 pub mod damage;
 pub mod drawing;
 pub mod lists;
+pub mod longs;
 pub mod model;
 pub mod payloads;
 pub mod plans;

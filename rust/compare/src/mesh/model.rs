@@ -8,8 +8,11 @@ use crate::refusals::{BAD_COUNT, BAD_SIZE, BAD_WORD, SHORT, STRAY, THIRD_MESH, T
 pub const MOST_COORDINATES: u32 = 10_000;
 pub const MOST_VERTICES: u32 = 32_000;
 pub const MOST_POINTS: u32 = 128_000;
-/// A box's size and type.
+/// A box's size and type, and a long size behind them.
 pub const HEADER: usize = 8;
+const LONG_HEADER: usize = 16;
+/// The size of a box whose true one is the long size.
+const LONG: u64 = 1;
 
 pub struct Submesh {
     pub texture: u32,
@@ -28,46 +31,46 @@ const MOST_MESHES: usize = 2;
 /// The Rust reserves memory for its submeshes first, and is not asked to read more than these.
 pub const MOST_SUBMESHES: u32 = 65_536;
 
-/// What a reader has to answer, and the largest submesh count that it met.
+/// What a reader has to answer, and what it met.
 pub struct Model<T> {
     pub reading: Result<T, i64>,
-    pub most_submeshes: u32,
+    met: Met,
+}
+
+/// What was met of that which the Rust is not asked about.
+#[derive(Default)]
+struct Met {
+    most_submeshes: u32,
+    long_size: bool,
 }
 
 impl<T> Model<T> {
-    /// Whether the Rust is not asked to read these bytes: it knows no longest payload, and takes words that are not
-    /// finite and any number of meshes.
+    fn read(bytes: &[u8], read: impl FnOnce(&mut Met) -> Result<T, i64>) -> Model<T> {
+        let mut met = Met::default();
+        let reading = if bytes.len() > LONGEST {
+            Err(TOO_LONG)
+        } else {
+            read(&mut met)
+        };
+        Model { reading, met }
+    }
+
+    /// Whether the Rust is not asked to read these bytes: it knows no longest payload and no long sizes, and takes
+    /// words that are not finite and any number of meshes.
     pub fn beyond_rust(&self, bytes: &[u8]) -> bool {
-        self.most_submeshes > MOST_SUBMESHES
+        self.met.most_submeshes > MOST_SUBMESHES
+            || self.met.long_size
             || bytes.len() > LONGEST
             || matches!(self.reading, Err(BAD_WORD | THIRD_MESH))
     }
 }
 
 pub fn parse_mesh(body: &[u8]) -> Model<Mesh> {
-    let mut most_submeshes = 0;
-    let reading = if body.len() > LONGEST {
-        Err(TOO_LONG)
-    } else {
-        read_mesh(body, &mut most_submeshes)
-    };
-    Model {
-        reading,
-        most_submeshes,
-    }
+    Model::read(body, |met| read_mesh(body, met))
 }
 
 pub fn parse_meshes(payload: &[u8]) -> Model<Vec<Mesh>> {
-    let mut most_submeshes = 0;
-    let reading = if payload.len() > LONGEST {
-        Err(TOO_LONG)
-    } else {
-        read_list(payload, &mut most_submeshes)
-    };
-    Model {
-        reading,
-        most_submeshes,
-    }
+    Model::read(payload, |met| read_list(payload, met))
 }
 
 /// Whether a pool's word is a number: neither an infinity nor a NaN.
@@ -88,27 +91,54 @@ pub fn followed<'a>(
     })
 }
 
-fn read_list(mut payload: &[u8], most_submeshes: &mut u32) -> Result<Vec<Mesh>, i64> {
+fn read_list(mut payload: &[u8], met: &mut Met) -> Result<Vec<Mesh>, i64> {
     let mut meshes = Vec::new();
     while payload.len() >= HEADER {
-        let size = payload[..4]
-            .iter()
-            .fold(0, |size, byte| size << 8 | usize::from(*byte));
-        if size < HEADER || size > payload.len() {
-            return Err(BAD_SIZE);
+        let short = number(&payload[..4]);
+        if short != LONG {
+            judge(short, HEADER, payload)?;
         }
-        if payload[4..HEADER] == MESH {
-            if meshes.len() == MOST_MESHES {
-                return Err(THIRD_MESH);
-            }
-            meshes.push(read_mesh(&payload[HEADER..size], most_submeshes)?);
+        let is_mesh = payload[4..HEADER] == MESH;
+        if is_mesh && meshes.len() == MOST_MESHES {
+            return Err(THIRD_MESH);
         }
-        payload = &payload[size..];
+        let (header, size) = if short == LONG {
+            met.long_size = true;
+            (LONG_HEADER, long_size(payload)?)
+        } else {
+            (HEADER, short)
+        };
+        let (whole, behind) = payload.split_at(size as usize);
+        if is_mesh {
+            meshes.push(read_mesh(&whole[header..], met)?);
+        }
+        payload = behind;
     }
     Ok(meshes)
 }
 
-fn read_mesh(body: &[u8], most_submeshes: &mut u32) -> Result<Mesh, i64> {
+/// The size behind the type of the box that a payload begins with.
+fn long_size(payload: &[u8]) -> Result<u64, i64> {
+    let bytes = payload.get(HEADER..LONG_HEADER).ok_or(SHORT)?;
+    let size = number(bytes);
+    judge(size, LONG_HEADER, payload)?;
+    Ok(size)
+}
+
+/// A size counts the header, and the box ends in the payload.
+fn judge(size: u64, header: usize, payload: &[u8]) -> Result<(), i64> {
+    if size < header as u64 || size > payload.len() as u64 {
+        return Err(BAD_SIZE);
+    }
+    Ok(())
+}
+
+/// The number that up to eight bytes are.
+fn number(bytes: &[u8]) -> u64 {
+    bytes.iter().fold(0, |n, byte| n << 8 | u64::from(*byte))
+}
+
+fn read_mesh(body: &[u8], met: &mut Met) -> Result<Mesh, i64> {
     let mut bits = Bits { body, place: 0 };
     let n = bits.count(MOST_COORDINATES)?;
     let mut pool = Vec::new();
@@ -126,7 +156,7 @@ fn read_mesh(body: &[u8], most_submeshes: &mut u32) -> Result<Mesh, i64> {
     }
     bits.align();
     let submesh_count = bits.count(u32::MAX)?;
-    *most_submeshes = submesh_count.max(*most_submeshes);
+    met.most_submeshes = submesh_count.max(met.most_submeshes);
     let mut submeshes = Vec::new();
     for _ in 0..submesh_count {
         submeshes.push(read_submesh(&mut bits, m)?);

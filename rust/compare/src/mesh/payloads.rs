@@ -1,6 +1,8 @@
 //! Descriptions of meshes and of mesh lists: small random ones, and some with large counts.
 
-use spell::{Mesh, Part, Spelled, Submesh, FIELDS, MESH};
+use std::iter;
+
+use spell::{header, Mesh, Part, Size, Spelled, Submesh, FIELDS, MESH};
 
 use crate::inputs::payloads::LONGEST;
 use crate::inputs::random::Random;
@@ -18,24 +20,48 @@ const OTHERS: [[u8; 4]; 7] = [
     *b"hsem",
 ];
 
+pub const BOTH_SIZES: [Size; 2] = [Size::Short, Size::Long];
+
 #[derive(Clone)]
 pub struct List {
     pub parts: Vec<Part>,
+    /// One for each part.
+    pub sizes: Vec<Size>,
     /// Bytes behind the last box.
     pub rest: Vec<u8>,
 }
 
 impl List {
+    /// These boxes, all with this size, and nothing behind them.
+    pub fn of(parts: Vec<Part>, size: Size) -> List {
+        List {
+            sizes: vec![size; parts.len()],
+            parts,
+            rest: Vec::new(),
+        }
+    }
+
     pub fn spelled(&self) -> Spelled {
+        assert_eq!(self.parts.len(), self.sizes.len());
         let mut spelled = Spelled::default();
-        for part in &self.parts {
-            spelled.push(part);
+        for (part, size) in iter::zip(&self.parts, &self.sizes) {
+            spelled.push(part, *size);
         }
         spelled.bytes.extend(&self.rest);
         spelled
     }
 
-    /// Up to four boxes, of which at most two are meshes.
+    /// The list with every choice of sizes.
+    pub fn every_spelling(&self) -> impl Iterator<Item = Vec<u8>> + '_ {
+        (0..1 << self.parts.len()).map(|choice: usize| {
+            let size = |place| BOTH_SIZES[choice >> place & 1];
+            let sizes = (0..self.parts.len()).map(size).collect();
+            let List { parts, rest, .. } = self.clone();
+            List { parts, sizes, rest }.spelled().bytes
+        })
+    }
+
+    /// Up to four boxes, of which at most two are meshes. In every second list all sizes are short.
     pub fn random(random: &mut Random) -> List {
         let boxes = random.pick(&[0, 1, 1, 1, 1, 1, 2, 2, 2, 3, 4]);
         let mut parts = Vec::new();
@@ -48,9 +74,12 @@ impl List {
                 parts.push(skipped(random));
             }
         }
+        let kinds = 1 + random.below(2);
+        let sizes = (0..boxes).map(|_| random.pick(&BOTH_SIZES[..kinds]));
+        let sizes = sizes.collect();
         let n = random.pick(&[0, 0, 1, 2, 3, 4, 5, 6, 7]);
         let rest = free_bytes(random, n);
-        List { parts, rest }
+        List { parts, sizes, rest }
     }
 
     /// The same, but with a third mesh.
@@ -61,9 +90,14 @@ impl List {
         for _ in meshes..3 {
             let place = random.below(list.parts.len() + 1);
             list.parts.insert(place, Part::Mesh(mesh(random)));
+            list.sizes.insert(place, any_size(random));
         }
         list
     }
+}
+
+pub fn any_size(random: &mut Random) -> Size {
+    random.pick(&BOTH_SIZES)
 }
 
 /// A box that is skipped. Its body is that of a mesh, or any bytes.
@@ -81,8 +115,13 @@ pub fn skipped(random: &mut Random) -> Part {
 
 /// A list of one mesh and nothing else.
 pub fn lone(mesh: &Mesh) -> Vec<u8> {
+    lone_of(mesh, Size::Short)
+}
+
+/// The same with this size.
+pub fn lone_of(mesh: &Mesh, size: Size) -> Vec<u8> {
     let mut spelled = Spelled::default();
-    spelled.push_box(MESH, &spell::body(mesh));
+    spelled.push_box(MESH, &spell::body(mesh), size);
     spelled.bytes
 }
 
@@ -178,14 +217,14 @@ pub fn m1() -> Mesh {
 }
 
 /// Lists that are as long as a payload may be. They begin with these bytes, then comes the mesh: with a box to be
-/// skipped behind it, and in a box of all bytes that are left.
-pub fn longest_of(before: &[u8], mesh: &Mesh) -> [Vec<u8>; 2] {
+/// skipped behind it, and in a box of all bytes that are left, the last of either with this size.
+pub fn longest_of(before: &[u8], mesh: &Mesh, size: Size) -> [Vec<u8>; 2] {
     let boxed = [before, &lone(mesh)].concat();
     [
-        [&boxed[..], &longest_header(&boxed, *b"free")].concat(),
+        [&boxed[..], &longest_header(&boxed, *b"free", size)].concat(),
         [
             before,
-            &longest_header(before, MESH),
+            &longest_header(before, MESH, size),
             &spell::body(mesh).bytes,
         ]
         .concat(),
@@ -197,9 +236,8 @@ pub fn longest_of(before: &[u8], mesh: &Mesh) -> [Vec<u8>; 2] {
 }
 
 /// The header of a box that takes all bytes that a payload may have behind these.
-fn longest_header(before: &[u8], box_type: [u8; 4]) -> Vec<u8> {
-    let size = (LONGEST - before.len()) as u32;
-    [size.to_be_bytes(), box_type].concat()
+fn longest_header(before: &[u8], box_type: [u8; 4], size: Size) -> Vec<u8> {
+    header(box_type, LONGEST - before.len() - size.header(), size)
 }
 
 /// Counts of coordinates, of vertices and of the points of each submesh.

@@ -1,6 +1,6 @@
 //! The points of each texture of a mesh list, against a model of document 02 over the records of the Rust's drawing.
 
-use spell::{Mesh, Part, Submesh};
+use spell::{Mesh, Part, Size, Submesh};
 
 use crate::inputs::payloads::shown;
 use crate::inputs::random::Random;
@@ -8,6 +8,7 @@ use crate::lent::answer::Answer;
 use crate::lent::fill::{before, check_exactly, lengths};
 use crate::mesh::damage::{damaged, stray_of};
 use crate::mesh::lists::{due as drawing_of, LONGER};
+use crate::mesh::longs::every_long;
 use crate::mesh::payloads::{self, large_counts, lone, sized, List};
 use crate::mesh::plans::{every_longest, every_plan, planned_list};
 use crate::mesh::thirds::{every_number, every_third, SKIPPED};
@@ -21,6 +22,8 @@ const WORDS: usize = 40;
 /// So many meshes are the third of a list, and so many lists are made by each plan.
 const THIRDS: usize = 4;
 const RANDOM: usize = 24_000;
+/// So many lists are spelled with every choice of sizes.
+const SPELLINGS: usize = 4000;
 /// Words of a record: its texture is the second, its points are the last.
 const RECORD: usize = 5;
 
@@ -33,6 +36,7 @@ pub fn run(options: &Options) -> Vec<Tally> {
         made(options, random),
         faults(options, random, times),
         lists(options, random, times),
+        spellings(options, random, times),
     ]
 }
 
@@ -63,9 +67,12 @@ pub fn answer(due: &Due, lent: usize) -> (Answer, &[u32]) {
 }
 
 fn check(tally: &mut Tally, payload: &[u8]) {
-    let due = due(payload);
+    check_due(tally, payload, &due(payload));
+}
+
+fn check_due(tally: &mut Tally, payload: &[u8], due: &Due) {
     for lent in lengths(due.as_ref().map_or(9, Vec::len)) {
-        let (answer, words) = answer(&due, lent);
+        let (answer, words) = answer(due, lent);
         let mut after = before(lent);
         after[..words.len()].copy_from_slice(words);
         check_exactly(
@@ -115,8 +122,7 @@ pub fn all_textures(random: &mut Random) -> Vec<Vec<u8>> {
         .to_vec();
     let meshes = [&down, &up].map(|textures| textured(random, textures));
     let parts = meshes.map(Part::Mesh).to_vec();
-    let rest = Vec::new();
-    payloads.push(List { parts, rest }.spelled().bytes);
+    payloads.push(List::of(parts, Size::Short).spelled().bytes);
     payloads
 }
 
@@ -143,7 +149,7 @@ fn made(options: &Options, random: &mut Random) -> Tally {
 /// Faults in one box or in several: that of the first one counts.
 fn faults(options: &Options, random: &mut Random, times: usize) -> Tally {
     let what =
-        "lists of up to four boxes by plan, third meshes, words at the limits of what is finite";
+        "lists of up to four boxes by plan, third meshes, words and long sizes at their limits";
     let mut tally = Tally::new(options, "textures faults", what);
     for _ in 0..WORDS * times {
         let (mesh, bad) = (payloads::mesh(random), random.pick(&NOT_FINITE));
@@ -153,6 +159,7 @@ fn faults(options: &Options, random: &mut Random, times: usize) -> Tally {
         let (mesh, bad) = (payloads::mesh(random), random.pick(&NOT_FINITE));
         every_third(&mesh, bad, |payload, _| check(&mut tally, payload));
         every_number(&mesh, &SKIPPED, |payload, _| check(&mut tally, payload));
+        every_long(&mesh, |payload, _| check(&mut tally, payload));
         for plan in every_plan() {
             check(&mut tally, &planned_list(random, &plan));
         }
@@ -172,6 +179,22 @@ fn lists(options: &Options, random: &mut Random, times: usize) -> Tally {
         check(&mut tally, &stray_of(random, &list));
         let crowded = List::crowded(random).spelled();
         check(&mut tally, &damaged(random, &crowded));
+    }
+    tally
+}
+
+/// The first spelling has short sizes.
+fn spellings(options: &Options, random: &mut Random, times: usize) -> Tally {
+    let what = "lists with any of their sizes long against what is due to the same with short ones";
+    let mut tally = Tally::new(options, "textures spellings", what);
+    for _ in 0..SPELLINGS * times {
+        let mut list = List::random(random);
+        few_textures(random, &mut list);
+        let mut due_of_first = None;
+        for payload in list.every_spelling() {
+            let due = due_of_first.get_or_insert_with(|| due(&payload));
+            check_due(&mut tally, &payload, due);
+        }
     }
     tally
 }

@@ -4,7 +4,7 @@ use spell::{Mesh, Part, FIELDS, MESH};
 
 use crate::inputs::random::Random;
 use crate::mesh::damage::{every_bad_count, every_cut, every_stray};
-use crate::mesh::payloads::{m1, List};
+use crate::mesh::payloads::{m1, List, BOTH_SIZES};
 use crate::refusals::{BAD_COUNT, BAD_WORD, SHORT, THIRD_MESH};
 
 /// Zeros, and the least and the largest subnormal and normal words.
@@ -120,7 +120,8 @@ fn every_fault(mesh: &Mesh, place: usize, mut each: impl FnMut(&[u8], i64)) {
 }
 
 /// The same bodies in lists, and before the meshes in a box that is skipped: as the first and as the second of two
-/// meshes, and between two, of which the last is one too many where the body has no fault.
+/// meshes, and between two, of which the last is one too many where the body has no fault; with short sizes and with
+/// long ones.
 pub fn every_list(mesh: &Mesh, bad: u32, mut each: impl FnMut(&[u8], Option<i64>)) {
     every_body(mesh, bad, |body, refusal| {
         let boxed = |box_type| Part::Other(box_type, body.to_vec());
@@ -132,8 +133,9 @@ pub fn every_list(mesh: &Mesh, bad: u32, mut each: impl FnMut(&[u8], Option<i64>
             (vec![whole(), boxed(MESH), whole()], too_many),
         ] {
             let parts = [vec![boxed(*b"free")], meshes].concat();
-            let rest = Vec::new();
-            each(&List { parts, rest }.spelled().bytes, refusal);
+            for size in BOTH_SIZES {
+                each(&List::of(parts.clone(), size).spelled().bytes, refusal);
+            }
         }
     });
 }

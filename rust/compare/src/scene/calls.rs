@@ -27,8 +27,12 @@ impl Calls {
 
     /// Exact, longer and empty buffers, and each in turn and all together one item short.
     pub fn some(&mut self, call: Call) {
-        let due = due(call);
-        let lent = match &due {
+        self.some_due(call, &due(call));
+    }
+
+    /// The same where it is known what is due.
+    pub fn some_due(&mut self, call: Call, due: &Due) {
+        let lent = match due {
             Err(_) => refused_lengths(&mut self.random),
             Ok(scene) => {
                 let needed = scene.lengths();
@@ -37,7 +41,7 @@ impl Calls {
                 lent
             }
         };
-        self.on_each(call, &due, lent);
+        self.on_each(call, due, lent);
     }
 
     /// Each buffer empty, one item short, exact and longer, with all of these of the others.

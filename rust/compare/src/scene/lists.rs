@@ -4,12 +4,13 @@ use spell::Spelled;
 
 use crate::inputs::random::Random;
 use crate::mesh::damage::{damaged, every_byte, every_size, every_stray_of, stray_of};
+use crate::mesh::longs::every_long;
 use crate::mesh::payloads::{lone, m1, mesh, sized, List};
 use crate::mesh::thirds::{every_number, every_third, SKIPPED};
 use crate::mesh::words::{every_list, NOT_FINITE};
 use crate::options::Options;
 use crate::scene::calls::Calls;
-use crate::scene::model::Call;
+use crate::scene::model::{due, Call};
 use crate::scene::numbers::any_given;
 use crate::tally::Tally;
 
@@ -19,11 +20,14 @@ const LISTS: usize = 24;
 const THIRDS: usize = 4;
 /// So many lists are taken with some damaged copies.
 const RANDOM: usize = 10_000;
+/// So many lists are spelled with every choice of sizes.
+const SPELLINGS: usize = 2000;
 /// Damaged copies of a random list.
 const COPIES: usize = 2;
 
 pub fn run(options: &Options, times: usize) -> Tally {
-    let what = "against mesh::parse_meshes; refusals, coordinate numbers, bad words and third meshes by the model";
+    let what = "against mesh::parse_meshes; by the model refusals, coordinate numbers, bad words, third meshes and \
+                long sizes, which are also held against short ones";
     let mut calls = Calls::new(options, "scene kind 2", what);
     for payload in [Vec::new(), vec![0xFF; 7], lone(&m1())] {
         every(&mut calls, &payload);
@@ -33,6 +37,10 @@ pub fn run(options: &Options, times: usize) -> Tally {
     }
     for _ in 0..THIRDS * times {
         thirds(&mut calls);
+    }
+    every_long(&m1(), |payload, _| some(&mut calls, payload));
+    for _ in 0..SPELLINGS * times {
+        spellings(&mut calls);
     }
     for _ in 0..RANDOM * times {
         random_damage(&mut calls);
@@ -81,6 +89,17 @@ fn thirds(calls: &mut Calls) {
     let (mesh, bad) = (mesh(&mut calls.random), calls.random.pick(&NOT_FINITE));
     every_third(&mesh, bad, |payload, _| some(calls, payload));
     every_number(&mesh, &SKIPPED, |payload, _| some(calls, payload));
+}
+
+/// The first spelling has short sizes. What is due to it is due to all.
+fn spellings(calls: &mut Calls) {
+    let list = List::random(&mut calls.random);
+    let mut due_of_first = None;
+    for payload in list.every_spelling() {
+        let call = call(&mut calls.random, &payload);
+        let due = due_of_first.get_or_insert_with(|| due(call));
+        calls.some_due(call, due);
+    }
 }
 
 fn random_damage(calls: &mut Calls) {

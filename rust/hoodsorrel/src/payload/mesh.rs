@@ -88,7 +88,7 @@ pub fn parse_mesh(
 }
 
 /// Writes the box of a mesh, given by the tables that [`parse_mesh`] fills, at the front of a buffer, and answers its
-/// size.
+/// size, which is written as a short one.
 ///
 /// Refused with 13, then 17, then 12.
 ///

@@ -1,4 +1,6 @@
-//! Kind 2: a list of mesh boxes, one for both eyes or one for each. Boxes of other types are skipped.
+//! Kind 2: a list of mesh boxes, one for both eyes or one for each. Boxes of other types are skipped. Whether a box has
+//! a short or a long size ([`box_header`](crate::bits::box_header)) makes no difference to what is read, but that
+//! its 8 bytes more count towards the longest payload.
 
 use crate::answer::{Words, asked, size, word, words};
 use crate::raw;
@@ -106,6 +108,11 @@ impl Record {
 ///     })
 /// );
 /// assert_eq!(measure_meshes(&payload[..39]), Err(Refusal::BoxSize));
+///
+/// // The same with a long size, and cut in it.
+/// let long = [&[0, 0, 0, 1][..], b"mesh", &[0, 0, 0, 0, 0, 0, 0, 0x30], &payload[8..]].concat();
+/// assert_eq!(measure_meshes(&long), measure_meshes(&payload));
+/// assert_eq!(measure_meshes(&long[..15]), Err(Refusal::TooFewBytes));
 ///
 /// // One such mesh for each eye, and one too many.
 /// assert_eq!(measure_meshes(&payload.repeat(2)).map(|size| size.counts.meshes), Ok(2));

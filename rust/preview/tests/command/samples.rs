@@ -17,6 +17,7 @@ fn a_mesh_list_is_listed_as_stored_and_drawn() {
     for (sample, paths) in [
         ("m1", 1 + 3),
         ("two_eyes", 5 + 3 * 3),
+        ("long_sizes", 5 + 3 * 3),
         ("empty", 0),
         // three have fewer than three points
         ("textures", 1),

@@ -1,6 +1,8 @@
 -- `capi_header` meets its contract. Assumes nothing.
-use Rattle.capi.specs.Answer.{item}
-use Rattle.capi.proofs.Handed.{handed-mapped}
+use mathlib.Core.Path.{ap}
+use Rattle.bits.specs.Verdict.{andThen}
+use Rattle.bits.specs.Header.{placed}
+use Rattle.capi.proofs.Handed.{handed}
 use borrow.Author.Needs.{needs}
 use Rattle.capi.proofs.bytes.capi_header.Statement.{statement}
 use Rattle.capi.proofs.bytes.capi_header.Tie as tie
@@ -20,7 +22,8 @@ same-length c = search needs
 returns : tie.Need-returns
 returns c =
     let t = c .before .before in
-    handed-mapped _ item (t .hand-out .ok) (t .hand-out .ensures) (t .before .of-header .ensures) (t .before .before .box-header .ensures)
+    handed _ (t .hand-out .ok) (t .hand-out .ensures) (t .before .of-header .ensures)
+    (ap (λ v. andThen v placed) (t .before .before .box-header .ensures))
 
 pub capi-header-spec : {M : Type 1} → statement M
 capi-header-spec =

@@ -7,7 +7,7 @@ use denote.Ref.{now}
 use Rattle.bits.specs.Header.{headerSays}
 use Rattle.payload.specs.Internal.{anyFrom}
 use Rattle.payload.proofs.StepLaws.{not-read}
-use Rattle.payload.proofs.BoxReadLaws.{at-declined}
+use Rattle.payload.proofs.BoxReadLaws.{at-declined, at-refused}
 use Rattle.payload.proofs.TurnLaws.{BoxTurn, box-turn}
 use Rattle.payload.proofs.DrawLaws.{MeshesLeft, meshes-end, meshes-room, meshes-on}
 use Rattle.payload.proofs.MeshTheorems.{any-was}
@@ -86,6 +86,23 @@ loop-again c =
     let e = d .draw-box .ensures in
     meshes-on (k .before .before .before .before .loop .inv) _ _ _ (turned k) _ _ (d .draw-box .result) (d .draw-box .kept .1 .1 .1 .1 .0) (d .draw-box .kept .1 .1 .1 .1 .1 .0) (e .1 .0) (e .1 .1) (e .0)
 
+enum-told-3 : tie.Need-enum-told-3 Inv-loop μ-loop
+enum-told-3 c = search needs
+
+same-length-5 : tie.Need-same-length-5 Inv-loop μ-loop
+same-length-5 c = c .before .before .before .loop .inv .long
+
+same-length-6 : tie.Need-same-length-6 Inv-loop μ-loop
+same-length-6 c = c .before .before .before .loop .inv .long-2
+
+returns-3 : tie.Need-returns-3 Inv-loop μ-loop
+returns-3 c =
+    let b = c .before .before in
+    let l = b .before .loop in
+    let s = now (b .before .before .before .before .before .args .s) in
+    let d = at-refused s (l .at) _ _ (sym (b .box-header .ensures) ∙ ap headerSays (c .enum-told3 .given .1)) in
+    absurd (not-read (anyFrom s (l .at)) (d .0) (d .1) (l .inv .read))
+
 pub draw-boxes-spec : {M : Type 1} → statement M
 draw-boxes-spec =
     tie.close
@@ -105,4 +122,8 @@ draw-boxes-spec =
     enum-known-fourcc
     draw-box-requires
     loop-less
-    loop-again)
+    loop-again
+    enum-told-3
+    same-length-5
+    same-length-6
+    returns-3)

@@ -3,12 +3,12 @@ use Prim.Native.Nat.{_-_}
 use mathlib.Core.Path.{_≡_, refl, sym, ap, _∙_}
 use native.Mathlib.Omega.{arith}
 use lib.ListN.{length}
-use Rattle.bits.specs.Verdict.{accepted, mapped}
-use Rattle.bits.specs.Header.{box, headerAt, headerSays}
+use Rattle.bits.specs.Verdict.{accepted, declined, mapped}
+use Rattle.bits.specs.Header.{sized, headerAt, headerSays}
 use Rattle.payload.specs.MeshRead.{readFrom, readMeshes}
 use Rattle.payload.specs.Internal.{noTotals, totalsOf, totalsSays, Room}
 use Rattle.payload.proofs.BoxReadLaws.{more-end, more-declined, header-value}
-use Rattle.payload.proofs.MeasureLaws.{moreAfter, room-on, measure-declined, measure-on, measure-room}
+use Rattle.payload.proofs.MeasureLaws.{moreAfter, room-on, measure-refused, measure-declined, measure-on, measure-room}
 use borrow.Author.Needs.{needs}
 use Rattle.payload.proofs.mesh.measure.measure_list.Statement.{statement}
 use Rattle.payload.proofs.mesh.measure.measure_list.Tie as tie
@@ -49,7 +49,7 @@ enum-known-fourcc c = search needs
 
 -- the box that stands here
 found : (c : tie.After-known-told Inv-loop μ-loop)
-    → headerAt (c .before .before .before .before .before .before .args .s .now) (c .before .before .before .before .loop .at) ≡ accepted (box (c .before .fourcc .given .0 .0) (c .before .fourcc .given .0 .1 .0) (c .before .fourcc .given .0 .1 .1 .0))
+    → headerAt (c .before .before .before .before .before .before .args .s .now) (c .before .before .before .before .loop .at) ≡ accepted (sized (c .before .fourcc .given .0 .0) (c .before .fourcc .given .0 .1 .0) (c .before .fourcc .given .0 .1 .1 .0))
 found c = sym (c .before .before .before .box-header .ensures) ∙ ap headerSays (c .before .fourcc .given .1)
 
 add-box-requires : tie.Need-add-box-requires Inv-loop μ-loop
@@ -81,6 +81,21 @@ loop-again c =
     let e = ap totalsSays (sym (c .before .next .given .1)) ∙ c .before .before .before .add-box .ensures in
     (l .inv .0 ∙ measure-on s (l .at) _ _ _ (l .t) (found (c .before .before .before .before)) _ e, measure-room s (l .at) _ _ _ (l .t) (found (c .before .before .before .before)) _ e (l .inv .1))
 
+enum-known-fourcc-2 : tie.Need-enum-known-fourcc-2 Inv-loop μ-loop
+enum-known-fourcc-2 c = search needs
+
+refused-box-requires : tie.Need-refused-box-requires Inv-loop μ-loop
+refused-box-requires c κs = search needs
+
+returns-4 : tie.Need-returns-4 Inv-loop μ-loop
+returns-4 c =
+    let b = c .before .before .before .before in
+    let l = b .before .loop in
+    ap declined (c .refused-box .ensures)
+    ∙ sym (l .inv .0
+    ∙ measure-refused (b .before .before .before .args .s .now) (l .at) _ _ (l .t)
+    (sym (b .box-header .ensures) ∙ ap headerSays (c .before .before .fourcc2 .given .1)))
+
 pub measure-list-spec : {M : Type 1} → statement M
 measure-list-spec =
     tie.close
@@ -99,4 +114,7 @@ measure-list-spec =
     returns-3
     enum-known-next
     loop-less
-    loop-again)
+    loop-again
+    enum-known-fourcc-2
+    refused-box-requires
+    returns-4)

@@ -5,10 +5,10 @@ use native.Mathlib.Omega.{arith}
 use lib.ListN.{length}
 use denote.Ref.{now}
 use borrow.Author.Needs.{needs}
-use Rattle.bits.specs.Header.{box, headerAt, headerSays}
+use Rattle.bits.specs.Header.{sized, headerAt, headerSays}
 use Rattle.bits.specs.Verdict.{accepted}
 use Rattle.payload.specs.InternalPlaces.{nextBody}
-use Rattle.payload.proofs.PlaceLaws.{next-end, next-declined, next-mesh, next-other, header-on}
+use Rattle.payload.proofs.PlaceLaws.{next-end, next-declined, next-refused, next-mesh, next-other, header-on}
 use Rattle.payload.proofs.mesh.places.next_mesh.Statement.{statement}
 use Rattle.payload.proofs.mesh.places.next_mesh.Tie as tie
 
@@ -47,7 +47,7 @@ enum-known-fourcc c = search needs
 
 -- the header that stands here
 header : (k : tie.After-known-told Inv-loop μ-loop)
-    → headerAt (now (k .before .before .before .before .before .before .args .s)) (k .before .before .before .before .loop .at) ≡ accepted (box (k .before .fourcc .given .0 .0) (k .before .fourcc .given .0 .1 .0) (k .before .fourcc .given .0 .1 .1 .0))
+    → headerAt (now (k .before .before .before .before .before .before .args .s)) (k .before .before .before .before .loop .at) ≡ accepted (sized (k .before .fourcc .given .0 .0) (k .before .fourcc .given .0 .1 .0) (k .before .fourcc .given .0 .1 .1 .0))
 header k = sym (k .before .before .before .box-header .ensures) ∙ ap headerSays (k .before .fourcc .given .1)
 
 returns-3 : tie.Need-returns-3 Inv-loop μ-loop
@@ -58,6 +58,16 @@ loop-less c = let b = header-on _ _ _ _ _ (header (c .before)) in omega (arith, 
 
 loop-again : tie.Need-loop-again Inv-loop μ-loop
 loop-again c = let k = c .before in k .before .before .before .before .loop .inv ∙ next-other (now (k .before .before .before .before .before .before .args .s)) _ _ _ _ (header k) (c .if1 .left)
+
+enum-told-3 : tie.Need-enum-told-3 Inv-loop μ-loop
+enum-told-3 c = search needs
+
+returns-4 : tie.Need-returns-4 Inv-loop μ-loop
+returns-4 c =
+    let b = c .before .before in
+    let l = b .before .loop in
+    sym (l .inv ∙ next-refused (now (b .before .before .before .args .s)) (l .at) _ _
+    (sym (b .box-header .ensures) ∙ ap headerSays (c .enum-told3 .given .1)))
 
 pub next-mesh-spec : {M : Type 1} → statement M
 next-mesh-spec =
@@ -74,4 +84,6 @@ next-mesh-spec =
     enum-known-fourcc
     returns-3
     loop-less
-    loop-again)
+    loop-again
+    enum-told-3
+    returns-4)

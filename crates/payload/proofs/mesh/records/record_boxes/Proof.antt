@@ -8,7 +8,7 @@ use Rattle.bits.specs.Header.{headerSays}
 use Rattle.payload.specs.MeshDrawing.{firstEye}
 use Rattle.payload.specs.Internal.{anyFrom}
 use Rattle.payload.proofs.StepLaws.{not-read}
-use Rattle.payload.proofs.BoxReadLaws.{at-declined}
+use Rattle.payload.proofs.BoxReadLaws.{at-declined, at-refused}
 use Rattle.payload.proofs.TurnLaws.{BoxTurn, box-turn}
 use Rattle.payload.proofs.RecordLaws.{RecordsLeft, records-start, records-end, records-room, records-on-box}
 use borrow.Author.Needs.{needs}
@@ -83,6 +83,20 @@ loop-again c =
     let e = d .record-box .ensures in
     records-on-box (k .before .before .before .before .loop .inv) _ _ _ (turned k) _ (d .record-box .result) (d .record-box .kept .1 .1 .1 .1 .0) (e .1) (e .0)
 
+enum-told-3 : tie.Need-enum-told-3 Inv-loop μ-loop
+enum-told-3 c = search needs
+
+same-length-3 : tie.Need-same-length-3 Inv-loop μ-loop
+same-length-3 c = c .before .before .before .loop .inv .long
+
+returns-3 : tie.Need-returns-3 Inv-loop μ-loop
+returns-3 c =
+    let b = c .before .before in
+    let l = b .before .loop in
+    let s = now (b .before .before .before .before .before .args .s) in
+    let d = at-refused s (l .at) _ _ (sym (b .box-header .ensures) ∙ ap headerSays (c .enum-told3 .given .1)) in
+    absurd (not-read (anyFrom s (l .at)) (d .0) (d .1) (l .inv .read))
+
 pub record-boxes-spec : {M : Type 1} → statement M
 record-boxes-spec =
     tie.close
@@ -101,4 +115,7 @@ record-boxes-spec =
     enum-known-fourcc
     record-box-requires
     loop-less
-    loop-again)
+    loop-again
+    enum-told-3
+    same-length-3
+    returns-3)
