@@ -8,3 +8,7 @@ pub mod Theorems
 pub mod DrawnProofs
 pub mod RefusalProofs
 pub mod MarkedProofs
+pub mod Sums
+pub mod GridWalks
+pub mod WindingProofs
+pub mod DecidesProofs

@@ -1,10 +1,12 @@
-//! The sphere's grid, the cube map, and their counts.
+//! The sphere's grid, the cube map, their counts, and which way round their triangles go.
 
 pub mod counts;
 pub mod cube;
 pub mod lengths;
 pub mod shares;
 pub mod sphere;
+mod walks;
+mod winding;
 
 use crate::Subject;
 
@@ -13,4 +15,5 @@ pub const SUBJECTS: &[Subject] = &[
     ("cube", cube::run),
     ("lengths", lengths::run),
     ("counts", counts::run),
+    ("winding", winding::run),
 ];
