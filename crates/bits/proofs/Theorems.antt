@@ -40,8 +40,9 @@ field-laws =
 pub read-laws : ReadLaws
 read-laws = record { one = one-by-bits; two = two-by-bits; held = field-held }
 
-pub field-gathered : (s : List ℕ) (p w : ℕ) → FieldGathered s p w
-field-gathered s p w = record { one = λ b. one-gathered s b p w; two = λ b. two-gathered s b p w }
+pub field-gathered : FieldGathered
+field-gathered =
+    record { one = λ s p w b. one-gathered s b p w; two = λ s p w b. two-gathered s b p w }
 
 stepped-moves : (limit last f next : ℕ) → f < 2 ^ 32 → limit ≤ 2 ^ 32 → (steppedTo last f ≡ next) × (next < limit) → Moves f last next × (next < limit)
 stepped-moves limit last f next hf hl (e, l) =
@@ -55,16 +56,19 @@ running-laws =
       stepped = λ limit last f next hf hl. (stepped-moves limit last f next hf hl, λ m. (moves-stepped last f next (m .0), m .1));
     }
 
-pub run-laws : (s : List ℕ) (w limit n p : ℕ) (prior : List ℕ) → RunLaws s w limit n p prior
-run-laws s w limit n p prior =
+pub run-laws : RunLaws
+run-laws =
     record {
-      reads = λ o ns q. (run-spells s w limit n p prior ns q o, back o ns q);
-      hands-out = λ h ns q e. read-summed s w limit n p prior ns q h e;
+      reads = λ s w limit n p prior ns q o. (run-spells s w limit n p prior ns q o, back s w limit n p prior ns q o);
+      hands-out = λ s w limit n p prior ns q h e. read-summed s w limit n p prior ns q h e;
     }
   where
-    back : 0 < length prior → (ns : List ℕ) (q : ℕ) → RunSpells s w limit p prior ns × (length ns ≡ n) × (q ≡ p + n * w) → readRun s w limit n p prior ≡ accepted (ns, q)
-    back o ns q (r, l, e) =
-        ap (λ (k : ℕ). readRun s w limit k p prior) (sym l) ∙ spells-run s w limit p prior ns o r ∙ ap (λ (k : ℕ). accepted (ns, k)) (ap (λ (k : ℕ). p + k * w) l ∙ sym e)
+    back : (s : List ℕ) (w limit n p : ℕ) (prior ns : List ℕ) (q : ℕ) → 0 < length prior
+        → RunSpells s w limit p prior ns × (length ns ≡ n) × (q ≡ p + n * w)
+        → readRun s w limit n p prior ≡ accepted (ns, q)
+    back s w limit n p prior ns q o (r, l, e) =
+        ap (λ (k : ℕ). readRun s w limit k p prior) (sym l) ∙ spells-run s w limit p prior ns o r
+        ∙ ap (λ (k : ℕ). accepted (ns, k)) (ap (λ (k : ℕ). p + k * w) l ∙ sym e)
 
 pub width-laws : WidthLaws
 width-laws = record { enough = width-enough; least = width-least }

@@ -47,9 +47,9 @@ pub record ReadLaws : Type 0 where
 -- A field gathered from whole bytes, each taken once and at most five for a field, is the number that its bits make one
 -- after the other, and the next place is theirs. For every width: inside the data, at its end and past it, and at its
 -- start, where fewer than five bytes end with the field. Two fields alike.
-pub record FieldGathered (s : List ℕ) (p w : ℕ) : Type 0 where
-  pub one : Bytes s → gatheredAt s p w ≡ widthLimited w (bitByBit s p w)
-  pub two : Bytes s → twoGatheredAt s p w ≡ widthLimited w (twoBitByBit s p w)
+pub record FieldGathered : Type 0 where
+  pub one : (s : List ℕ) (p w : ℕ) → Bytes s → gatheredAt s p w ≡ widthLimited w (bitByBit s p w)
+  pub two : (s : List ℕ) (p w : ℕ) → Bytes s → twoGatheredAt s p w ≡ widthLimited w (twoBitByBit s p w)
 
 -- The width of a field is tested first: the answer is 16 exactly where it is above 32, whatever the data hold, few or
 -- none, and wherever the place is.
@@ -67,13 +67,14 @@ pub record RunningLaws : Type 0 where
       → ((steppedTo last f ≡ next) × (next < limit)) ↔ (Moves f last next × (next < limit))
 
 -- a run: n fields of width w from bit p on, and the running numbers that `prior` starts with
-pub record RunLaws (s : List ℕ) (w limit n p : ℕ) (prior : List ℕ) : Type 0 where
+pub record RunLaws : Type 0 where
   -- it is read exactly where it is spelled
-  pub reads : 0 < length prior → (ns : List ℕ) (q : ℕ)
+  pub reads : (s : List ℕ) (w limit n p : ℕ) (prior ns : List ℕ) (q : ℕ) → 0 < length prior
       → (readRun s w limit n p prior ≡ accepted (ns, q))
       ↔ (RunSpells s w limit p prior ns × (length ns ≡ n) × (q ≡ p + n * w))
   -- and the numbers that are handed out are then those that were read
-  pub hands-out : limit ≤ 65536 → (ns : List ℕ) (q : ℕ) → readRun s w limit n p prior ≡ accepted (ns, q)
+  pub hands-out : (s : List ℕ) (w limit n p : ℕ) (prior ns : List ℕ) (q : ℕ) → limit ≤ 65536
+      → readRun s w limit n p prior ≡ accepted (ns, q)
       → summed s w n p prior ≡ ns
 
 -- w(c) is the least w with 2^w at least 2 * c

@@ -3,7 +3,7 @@ use Prim.Native.Nat.{ℕ}
 use mathlib.Core.List.{List, [], _∷_, _++_}
 use Rattle.scene.specs.Scene.{Named, crop, padding, counts}
 use Rattle.scene.specs.declared.Lengths.{Lengths}
-use Rattle.capi.specs.Shown.{sideWords}
+use Rattle.capi.specs.Values.{sideWords}
 
 abbrev pub namedWords : Named → List ℕ
 namedWords (crop b) = 0 ∷ sideWords b

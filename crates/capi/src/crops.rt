@@ -19,7 +19,7 @@ ghost use Rattle.payload.specs.Equi.{cropOf, equiRead, withCrop, equiSays, equi
 ghost use Rattle.payload.specs.Cbmp.{cbmpRead, cbmpSays, cbmpWritten};
 ghost use Rattle.capi.specs.Answer.{codeOf, wordsAfter, one, truth};
 ghost use Rattle.capi.specs.Reply.{Says};
-ghost use Rattle.capi.specs.Shown.{sides, sideWords, fields, reading};
+ghost use Rattle.capi.specs.Values.{sides, sideWords, fields, reading};
 
 #[no_mangle]
 pub extern "C" fn capi_is_usable(top: f32, bottom: f32, left: f32, right: f32) -> i64

@@ -19,7 +19,7 @@ ghost use Rattle.payload.specs.Sphere.{sphereNumbers, sphereUvs};
 ghost use Rattle.payload.specs.Cube.{cubeNumbers, cubeFloats};
 ghost use Rattle.capi.specs.Answer.{codeOf, wordsAfter, one, two};
 ghost use Rattle.capi.specs.Reply.{Says};
-ghost use Rattle.capi.specs.Shown.{sides};
+ghost use Rattle.capi.specs.Values.{sides};
 
 fn of_lengths(x: GridLengths) -> Reply
     ensures { λ r. ⌜ Says r (mapped two (gridLengthsSays x)) ⌝ }

@@ -8,7 +8,7 @@
 // Words that do not fit are not stored: eight words are always enough. A call that is lent no words answers its value
 // itself, 1 or 0 for yes or no, and -k for refusal k; `capi_zigzag`, which refuses nothing, may answer below 0.
 // Each contract is an equation with the definitions that the call's own contract cites, put into words by
-// specs/Answer.antt, Shown.antt and Scene.antt.
+// specs/Answer.antt, Values.antt and Scene.antt.
 use payload::Bounds;
 use payload::Filled;
 ghost use mathlib.Core.Path.{_≡_};
@@ -19,7 +19,7 @@ ghost use Rattle.bits.specs.Float.{bitsOf};
 ghost use Rattle.payload.specs.Fill.{filledSays};
 ghost use Rattle.capi.specs.Answer.{stored, one, truth};
 ghost use Rattle.capi.specs.Reply.{Holds, Says, usedWords};
-ghost use Rattle.capi.specs.Shown.{sideWords};
+ghost use Rattle.capi.specs.Values.{sideWords};
 
 pub mod bytes;
 pub mod counts;

@@ -23,7 +23,7 @@ ghost use Rattle.payload.specs.Tables.{tableLengths, bodyRead, tableLengthsSays
 ghost use Rattle.payload.specs.MeshWrite.{meshWritten};
 ghost use Rattle.capi.specs.Answer.{codeOf, wordsAfter, one, three};
 ghost use Rattle.capi.specs.Reply.{Says};
-ghost use Rattle.capi.specs.Shown.{sizeWords, tableWords};
+ghost use Rattle.capi.specs.Values.{sizeWords, tableWords};
 
 fn of_size(n: MeshListSize) -> Reply
     ensures { λ r. ⌜ Says r (accepted (sizeWords n)) ⌝ }

@@ -19,7 +19,7 @@ ghost use Rattle.payload.specs.View.{layoutOf, pairOf, projectionOf, windowed, 
 ghost use Rattle.payload.specs.View.{windowOf, mixOf, fovForZoom, zoomForFov};
 ghost use Rattle.capi.specs.Answer.{codeOf, wordsAfter, truth};
 ghost use Rattle.capi.specs.Reply.{Says};
-ghost use Rattle.capi.specs.Shown.{layoutNumber, pairNumber, projectionNumber, eyeOf, patchWords};
+ghost use Rattle.capi.specs.Values.{layoutNumber, pairNumber, projectionNumber, eyeOf, patchWords};
 
 #[no_mangle]
 pub extern "C" fn capi_layout_from_raw(v: u32) -> i64

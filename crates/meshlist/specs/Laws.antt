@@ -8,7 +8,8 @@ use Rattle.payload.specs.Lent.{_onto_, buffersAfter}
 use Rattle.payload.specs.Mesh.{Mesh}
 use Rattle.payload.specs.MeshDrawing.{drawnRecords}
 use Rattle.payload.specs.Textures.{listRecords, listTextures}
-use Rattle.payload.specs.TextureLaws.{listedPoints, sum, TextureLaws, TexturesOf}
+use Rattle.payload.specs.MeshSpells.{sum}
+use Rattle.payload.specs.TextureLaws.{listedPoints, TextureLaws, TexturesOf}
 use Rattle.meshlist.specs.Listing.{listed, listing, listingPlan}
 
 -- what is handed to the printer of a mesh list: four counts, and the buffers of the record and of the texture lines

@@ -11,12 +11,12 @@ use borrow.Author.Tests.{eq-eqb, ne-eqb, eqb-true, eqb-false}
 use Rattle.bits.specs.Refusals.{among}
 use Rattle.bits.proofs.VerdictLaws.{clash}
 use Rattle.payload.specs.Mesh.{Submesh, Mesh}
-use Rattle.payload.specs.MeshSpells.{sizes}
+use Rattle.payload.specs.MeshSpells.{sizes, sum}
 use Rattle.payload.specs.MeshDrawing.{submeshRecords, recordsFrom, firstEye, pointCount, pointTotal}
 use Rattle.payload.specs.Records.{recordsIn, pointSum}
 use Rattle.payload.specs.Firsts.{firsts, Distinct, Below}
 use Rattle.payload.specs.Textures.{textures, pointsWith, paired, textureWords, listTextures}
-use Rattle.payload.specs.TextureLaws.{listedTextures, listedPoints, sum}
+use Rattle.payload.specs.TextureLaws.{listedTextures, listedPoints}
 use Rattle.payload.specs.Internal.{submeshesOf, Taken}
 use Rattle.payload.specs.InternalTextures.{weight, weights, listWeights, Proper}
 use Rattle.payload.specs.declared.mesh.records.Record.{Record}

@@ -8,13 +8,13 @@ use Rattle.bits.specs.Refusals.{among}
 use Rattle.bits.specs.Verdict.{accepted, limited}
 use Rattle.bits.proofs.FieldLaws.{field-lt}
 use Rattle.payload.specs.Mesh.{Submesh, Mesh}
-use Rattle.payload.specs.MeshSpells.{SubmeshesSpell, BoxesSpell, ends, holds, skips}
+use Rattle.payload.specs.MeshSpells.{SubmeshesSpell, BoxesSpell, ends, holds, skips, sum}
 use Rattle.payload.specs.MeshRead.{readMeshes}
 use Rattle.payload.specs.MeshDrawing.{firstEye, pointTotal}
 use Rattle.payload.specs.Records.{pointSum}
 use Rattle.payload.specs.Firsts.{firsts, Below}
 use Rattle.payload.specs.Textures.{textures, pointsWith, textureWords, listRecords}
-use Rattle.payload.specs.TextureLaws.{listedTextures, listedPoints, sum, RecordTextures, TexturesOf, TexturesRead}
+use Rattle.payload.specs.TextureLaws.{listedTextures, listedPoints, RecordTextures, TexturesOf, TexturesRead}
 use Rattle.payload.specs.InternalTextures.{weights, listWeights, Proper}
 use Rattle.payload.specs.declared.mesh.records.Record.{Record}
 use Rattle.payload.proofs.PayloadLaws.{limited-value}

@@ -36,6 +36,9 @@ abbrev pub sizes : {A : Type 0} → (A → ℕ) → List A → ℕ
 sizes size [] = 0
 sizes size (a ∷ l) = size a + sizes size l
 
+abbrev pub sum : List ℕ → ℕ
+sum l = sizes (λ (n : ℕ). n) l
+
 -- with no alignment between
 abbrev pub SubmeshesSpell : List ℕ → ℕ → ℕ → ℕ → List Submesh → Type 0
 SubmeshesSpell s w m p l = EachSpells (submeshBits w) (SubmeshSpells s w m) p l

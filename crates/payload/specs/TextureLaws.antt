@@ -6,7 +6,7 @@ use lib.ListN.{length}
 use Rattle.bits.specs.Refusals.{among}
 use Rattle.bits.specs.Verdict.{accepted, limited}
 use Rattle.payload.specs.Mesh.{Mesh}
-use Rattle.payload.specs.MeshSpells.{sizes}
+use Rattle.payload.specs.MeshSpells.{sum}
 use Rattle.payload.specs.MeshRead.{readMeshes}
 use Rattle.payload.specs.MeshDrawing.{pointTotal}
 use Rattle.payload.specs.Firsts.{firsts, Distinct, Below, placeOf}
@@ -23,9 +23,6 @@ abbrev pub listedPoints : List ℕ → List ℕ
 listedPoints (t ∷ p ∷ l) = p ∷ listedPoints l
 listedPoints (t ∷ []) = []
 listedPoints [] = []
-
-abbrev pub sum : List ℕ → ℕ
-sum l = sizes (λ (n : ℕ). n) l
 
 -- of the words of any records
 pub record TextureLaws (l : List Record) : Type 0 where

@@ -12,7 +12,8 @@ const NAME: &str = "read_two";
 const RANDOM: u32 = 1_000_000;
 
 pub fn run(options: &Options) -> Vec<Tally> {
-    let what = "both fields and the place after them against bits one by one; 16 for a width above 32";
+    let what =
+        "both fields and the place after them against bits one by one; 16 for a width above 32";
     let mut tally = Tally::new(options, NAME, what);
     let mut random = Random::new(options.seed, NAME);
     for data in short_buffers(&mut random, 4) {

@@ -23,7 +23,7 @@ fn usable(words: &[u32]) -> Option<Vec<[u32; 3]>> {
 fn corners(mode: u32, k: u32) -> [u32; 3] {
     match mode {
         0 => [3 * k, 3 * k + 1, 3 * k + 2],
-        1 if k % 2 == 0 => [k, k + 1, k + 2],
+        1 if k.is_multiple_of(2) => [k, k + 1, k + 2],
         1 => [k + 1, k, k + 2],
         _ => [0, k + 1, k + 2],
     }

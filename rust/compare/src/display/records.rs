@@ -85,7 +85,9 @@ pub fn spoil(random: &mut Random, words: &mut Vec<u32>, fault: Fault) {
     }
     match fault {
         // A list is torn once: two tears may come to five words.
-        Fault::Torn if words.len() % 5 == 0 => words.extend((0..random.below(4) + 1).map(|_| 0)),
+        Fault::Torn if words.len().is_multiple_of(5) => {
+            words.extend((0..random.below(4) + 1).map(|_| 0))
+        }
         Fault::Torn => (),
         Fault::Mode => words[record + 2] = random.pick(&[3, 4, 255, 256, MOST]),
         Fault::LastPoint => {

@@ -1,5 +1,5 @@
 -- `capi_equi_crop` meets its contract. Assumes nothing.
-use Rattle.capi.specs.Shown.{sideWords}
+use Rattle.capi.specs.Values.{sideWords}
 use Rattle.capi.proofs.Handed.{handed-value}
 use borrow.Author.Needs.{needs}
 use Rattle.capi.proofs.crops.capi_equi_crop.Statement.{statement}

@@ -1,5 +1,5 @@
 -- `capi_parse_equi` meets its contract. Assumes nothing.
-use Rattle.capi.specs.Shown.{reading}
+use Rattle.capi.specs.Values.{reading}
 use Rattle.capi.proofs.Handed.{handed-mapped}
 use borrow.Author.Needs.{needs}
 use Rattle.capi.proofs.crops.capi_parse_equi.Statement.{statement}

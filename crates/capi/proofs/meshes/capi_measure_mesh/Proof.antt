@@ -1,5 +1,5 @@
 -- `capi_measure_mesh` meets its contract. Assumes nothing.
-use Rattle.capi.specs.Shown.{tableWords}
+use Rattle.capi.specs.Values.{tableWords}
 use Rattle.capi.proofs.Handed.{handed-mapped}
 use borrow.Author.Needs.{needs}
 use Rattle.capi.proofs.meshes.capi_measure_mesh.Statement.{statement}

@@ -1,6 +1,6 @@
 -- `capi_measure_meshes` meets its contract. Assumes nothing.
 use Rattle.capi.proofs.Handed.{handed-mapped}
-use Rattle.capi.specs.Shown.{sizeWords}
+use Rattle.capi.specs.Values.{sizeWords}
 use borrow.Author.Needs.{needs}
 use Rattle.capi.proofs.meshes.capi_measure_meshes.Statement.{statement}
 use Rattle.capi.proofs.meshes.capi_measure_meshes.Tie as tie

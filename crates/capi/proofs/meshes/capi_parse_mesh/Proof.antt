@@ -1,6 +1,6 @@
 -- `capi_parse_mesh` meets its contract. Assumes nothing.
 use Rattle.capi.proofs.Handed.{handed-with}
-use Rattle.capi.specs.Shown.{tableWords}
+use Rattle.capi.specs.Values.{tableWords}
 use borrow.Author.Needs.{needs}
 use Rattle.capi.proofs.meshes.capi_parse_mesh.Statement.{statement}
 use Rattle.capi.proofs.meshes.capi_parse_mesh.Tie as tie

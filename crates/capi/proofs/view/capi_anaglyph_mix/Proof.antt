@@ -2,9 +2,9 @@
 use mathlib.Core.Path.{ap, ap₂, _∙_}
 use Rattle.bits.specs.Verdict.{accepted}
 use Rattle.payload.specs.View.{pairOf, mixOf}
-use Rattle.capi.specs.Shown.{eyeOf}
+use Rattle.capi.specs.Values.{eyeOf}
 use Rattle.capi.proofs.Handed.{handed}
-use Rattle.capi.proofs.ShownLaws.{three-words, threeBits, mix-bits}
+use Rattle.capi.proofs.ValueLaws.{three-words, threeBits, mix-bits}
 use borrow.Author.Needs.{needs}
 use Rattle.capi.proofs.view.capi_anaglyph_mix.Statement.{statement}
 use Rattle.capi.proofs.view.capi_anaglyph_mix.Tie as tie

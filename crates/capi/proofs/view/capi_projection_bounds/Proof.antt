@@ -1,7 +1,7 @@
 -- `capi_projection_bounds` meets its contract. Assumes nothing.
 use mathlib.Core.Path.{ap, _∙_}
 use Rattle.payload.specs.View.{patchOf}
-use Rattle.capi.specs.Shown.{patchWords}
+use Rattle.capi.specs.Values.{patchWords}
 use Rattle.capi.proofs.Handed.{handed-value}
 use borrow.Author.Needs.{needs}
 use Rattle.capi.proofs.view.capi_projection_bounds.Statement.{statement}

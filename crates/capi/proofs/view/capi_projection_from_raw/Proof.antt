@@ -1,5 +1,5 @@
 -- `capi_projection_from_raw` meets its contract, variant by variant. Assumes nothing.
-use Rattle.capi.specs.Shown.{projectionNumber}
+use Rattle.capi.specs.Values.{projectionNumber}
 use Rattle.capi.proofs.Handed.{numbered-by}
 use borrow.Author.Needs.{needs}
 use Rattle.capi.proofs.view.capi_projection_from_raw.Statement.{statement}

@@ -2,9 +2,9 @@
 use mathlib.Core.Path.{ap, ap₂, _∙_}
 use Rattle.bits.specs.Verdict.{accepted}
 use Rattle.payload.specs.View.{layoutOf, windowOf}
-use Rattle.capi.specs.Shown.{eyeOf}
+use Rattle.capi.specs.Values.{eyeOf}
 use Rattle.capi.proofs.Handed.{handed}
-use Rattle.capi.proofs.ShownLaws.{four-words, fourBits, window-bits}
+use Rattle.capi.proofs.ValueLaws.{four-words, fourBits, window-bits}
 use borrow.Author.Needs.{needs}
 use Rattle.capi.proofs.view.capi_uv_window.Statement.{statement}
 use Rattle.capi.proofs.view.capi_uv_window.Tie as tie
