@@ -2,5 +2,7 @@
 pub mod Stores
 pub mod Handed
 pub mod ValueLaws
+pub mod ShownListLaws
+pub mod ListProofs
 pub mod Totals
 pub mod RefusalProofs

@@ -8,7 +8,7 @@
 // Words that do not fit are not stored: eight words are always enough. A call that is lent no words answers its value
 // itself, 1 or 0 for yes or no, and -k for refusal k; `capi_zigzag`, which refuses nothing, may answer below 0.
 // Each contract is an equation with the definitions that the call's own contract cites, put into words by
-// specs/Answer.antt, Values.antt and Scene.antt.
+// specs/Answer.antt, Values.antt, ShownLists.antt and Scene.antt.
 use payload::Bounds;
 use payload::Filled;
 ghost use mathlib.Core.Path.{_≡_};
@@ -32,6 +32,7 @@ pub mod put;
 pub mod records;
 pub mod runs;
 pub mod scene_call;
+pub mod shown;
 pub mod view;
 
 // What a call answered: the i64, and the words that go with it.

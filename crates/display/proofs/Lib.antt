@@ -12,3 +12,10 @@ pub mod Sums
 pub mod GridWalks
 pub mod WindingProofs
 pub mod DecidesProofs
+pub mod NumberedRecordLaws
+pub mod ShownListLaws
+pub mod ShownSumLaws
+pub mod ClosingLaws
+pub mod ShownCallLaws
+pub mod ShownProofs
+pub mod ShownMarkedProofs

@@ -1,5 +1,6 @@
--- What the crate's contracts cite, and the theorems about it: `Laws`, `Drawn`, `Refusals` and `Marked`, whose proofs
--- are in proofs/. `Winding` is about the triangles of spheres and cubes, which are made in the crates below.
+-- What the crate's contracts cite, and the theorems about it, whose proofs are in proofs/: of triangles `Laws`, `Drawn`
+-- and `Marked`, of shown submeshes `ShownLaws` and `ShownMarked`, of all calls `Refusals`. `Winding` is about the
+-- triangles of spheres and cubes, which are made in the crates below.
 pub mod Triangles
 pub mod Internal
 pub mod Laws
@@ -7,3 +8,8 @@ pub mod Drawn
 pub mod Refusals
 pub mod Marked
 pub mod Winding
+pub mod ShownRules
+pub mod ShownKept
+pub mod InternalShown
+pub mod ShownLaws
+pub mod ShownMarked

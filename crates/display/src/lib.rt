@@ -1,13 +1,20 @@
-// What a display makes of the records of a drawing. Any words may be handed in as records: each call judges them before
-// it writes anything, so a refusal leaves the buffers as they were.
+// What a display makes of the records of a drawing. Any words may be handed in as records: each call judges what it is
+// handed before it changes anything, so a refusal leaves all as it was.
 use payload::Record;
 ghost use mathlib.Core.Path.{_≡_};
 ghost use Prim.Native.Nat.{_+_, _≤_};
 ghost use lib.ListN.{length};
 ghost use Rattle.display.specs.Internal.{recordAt};
 
+mod shown;
 mod triangulation;
 
+pub use shown::Change;
+pub use shown::Shown;
+pub use shown::ShownAnswer;
+pub use shown::hide;
+pub use shown::none_shown;
+pub use shown::show;
 pub use triangulation::triangles;
 
 // The record whose first word is records[at].

@@ -15,6 +15,7 @@ mod put;
 mod records;
 mod runs;
 mod scene_call;
+mod shown;
 mod unpack;
 mod view;
 
@@ -28,7 +29,7 @@ pub enum Outcome {
 }
 
 // The numbers of the calls are below this. 0 is that of a line that cannot be read.
-pub const CALLS: usize = 64;
+pub const CALLS: usize = 67;
 
 // The words that are lent, as they are before a call.
 const WORDS: [u64; 8] = [0xa5a5_a5a5_a5a5_a5a5; 8];
@@ -122,7 +123,7 @@ fn lend_numbers(call: usize, args: &[u64; 10], data: &[u8], length: u64) -> Outc
     call_numbers(call, args, data, &mut out[..n])
 }
 
-// The calls that make floats, records or textures alone.
+// The calls that make floats, records, textures or an empty list alone.
 fn answer_u32s(call: usize, args: &[u64; 10], data: &[u8], out: &mut [u32]) -> Outcome {
     let mut words = WORDS;
     let r = call_u32s(call, args, data, out, &mut words);
@@ -139,6 +140,7 @@ fn call_u32s(
     match call {
         0x22 => meshes::records(data, out, words),
         0x3f => meshes::textures(data, out, words),
+        0x40 => shown::none_shown(out, words),
         _ => grids::floats(call, args, out, words),
     }
 }
@@ -230,11 +232,12 @@ pub fn call(call: usize, args: &[u64; 10], data: &[u8]) -> Outcome {
         0x37 => lend_numbers(call, args, data, args[3]),
         0x1c => lend_u32s(call, args, data, args[2], 4096),
         0x1e => lend_u32s(call, args, data, args[3], 4096),
-        0x22 | 0x3f => lend_u32s(call, args, data, args[0], 512),
+        0x22 | 0x3f | 0x40 => lend_u32s(call, args, data, args[0], 512),
         0x21 => lend_drawing(call, args, data, args[0], args[1], args[2]),
         0x25 => lend_drawing(call, args, data, args[6], args[7], args[8]),
         0x23 | 0x24 => meshes::mesh_body(call, args, data),
         0x3e => records::lend_triangles(data, args[0], args[1]),
+        0x41 | 0x42 => shown::lend_list(call, args, data, args[3], args[4], args[5]),
         0x0c | 0x0e..=0x12 | 0x15 | 0x1f | 0x2a | 0x2b | 0x2d | 0x2f | 0x30 | 0x32 | 0x33 => {
             answer_unlent(call, args, data)
         }

@@ -21,3 +21,7 @@ pub const WIDE: i64 = 16;
 pub const BAD_WORD: i64 = 17;
 /// A third mesh box begins.
 pub const THIRD_MESH: i64 = 18;
+/// The list of shown numbers, or a number that is no record or is shown already.
+pub const LIST_OR_NUMBER: i64 = 19;
+pub const NOT_SHOWN: i64 = 20;
+pub const LIST_FULL: i64 = 21;

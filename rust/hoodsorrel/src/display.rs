@@ -1,6 +1,11 @@
 //! What a display makes of the records of a drawing.
 //!
-//! Any words may be handed in as records: a call judges them before it writes anything.
+//! Any words may be handed in as records: each call judges what it is handed before it changes anything, so a refusal
+//! leaves all as it was.
+
+mod shown;
+
+pub use shown::Shown;
 
 use crate::answer::{size, word};
 use crate::refusal::{Needed, Refusal};

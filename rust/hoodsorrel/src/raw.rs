@@ -162,6 +162,11 @@ calls! {
 // What a display makes of records.
 calls! {
     capi_triangles as triangles(records: &[u32], out: &mut [u32], words: &mut [u64]);
+    capi_none_shown as none_shown(list: &mut [u32], words: &mut [u64]);
+    capi_show as show(
+        list: &mut [u32], count: u32, total: u64, number: u32, records: &[u32], words: &mut [u64]);
+    capi_hide as hide(
+        list: &mut [u32], count: u32, total: u64, number: u32, records: &[u32], words: &mut [u64]);
 }
 
 // The five functions of libviewer.a.

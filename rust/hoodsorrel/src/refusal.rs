@@ -66,6 +66,13 @@ pub enum Refusal {
     NotFinite,
     /// 18: a third mesh box begins. A list has one mesh for both eyes or one for each.
     ThirdMesh,
+    /// 19: the list of shown numbers is longer than 64, repeats a number, holds one that is no record or has another
+    /// total; or the number is no record, or is shown already when showing.
+    ListOrNumber,
+    /// 20: a number that is to be hidden is not shown.
+    NotShown,
+    /// 21: 64 are shown, and no more can be.
+    ListFull,
 }
 
 /// The lengths that 12 tells.
@@ -80,7 +87,7 @@ pub enum Needed {
 }
 
 impl Refusal {
-    /// 1 to 18.
+    /// 1 to 21.
     pub const fn number(self) -> u8 {
         match self {
             Refusal::Kind => 1,
@@ -101,6 +108,9 @@ impl Refusal {
             Refusal::FieldWidth => 16,
             Refusal::NotFinite => 17,
             Refusal::ThirdMesh => 18,
+            Refusal::ListOrNumber => 19,
+            Refusal::NotShown => 20,
+            Refusal::ListFull => 21,
         }
     }
 
@@ -110,12 +120,12 @@ impl Refusal {
     /// use hoodsorrel::Refusal;
     ///
     /// assert_eq!(Refusal::from_number(8), Some(Refusal::RunningNumber));
-    /// assert_eq!(Refusal::from_number(18), Some(Refusal::ThirdMesh));
-    /// assert_eq!([0, 12, 19].map(Refusal::from_number), [None; 3]);
+    /// assert_eq!(Refusal::from_number(21), Some(Refusal::ListFull));
+    /// assert_eq!([0, 12, 22].map(Refusal::from_number), [None; 3]);
     /// ```
     pub fn from_number(number: u8) -> Option<Refusal> {
         match number {
-            1..=11 | 13..=18 => Some(Refusal::of_code(-i64::from(number), Needed::One(0))),
+            1..=11 | 13..=21 => Some(Refusal::of_code(-i64::from(number), Needed::One(0))),
             _ => None,
         }
     }
@@ -159,6 +169,12 @@ impl Refusal {
             Refusal::FieldWidth => "a field width is above 32",
             Refusal::NotFinite => "a pool word is an infinity or a NaN",
             Refusal::ThirdMesh => "a third mesh box begins",
+            Refusal::ListOrNumber => {
+                "the list of shown numbers is longer than 64, repeats one, holds one that is no record \
+                 or has another total, or the number is no record, or shown already when showing"
+            }
+            Refusal::NotShown => "the number is not shown",
+            Refusal::ListFull => "64 are shown",
         }
     }
 
@@ -191,6 +207,9 @@ impl Refusal {
             -16 => Refusal::FieldWidth,
             -17 => Refusal::NotFinite,
             -18 => Refusal::ThirdMesh,
+            -19 => Refusal::ListOrNumber,
+            -20 => Refusal::NotShown,
+            -21 => Refusal::ListFull,
             _ => Refusal::CountTooLarge,
         }
     }
@@ -229,7 +248,7 @@ mod tests {
     use super::{Needed, Refusal};
 
     fn numbers() -> impl Iterator<Item = u8> {
-        1..=18
+        1..=21
     }
 
     #[test]

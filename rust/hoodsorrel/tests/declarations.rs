@@ -98,13 +98,22 @@ fn public_calls(krate: &str) -> Vec<String> {
         .collect()
 }
 
+/// A public call's name here: what makes the empty list is `Shown::none`.
+fn name_here(call: &str) -> &str {
+    match call {
+        "none_shown" => "none",
+        _ => call,
+    }
+}
+
 #[test]
 fn every_public_call_is_here() {
-    let mut calls = [public_calls("bits"), public_calls("payload")].concat();
+    let mut calls = ["bits", "payload", "display"].map(public_calls).concat();
     assert!(calls.len() > 40);
     calls.push("scene".into());
     let here = texts(&Path::new(env!("CARGO_MANIFEST_DIR")).join("src")).concat();
     for call in calls {
-        assert!(here.contains(&format!("pub fn {call}(")), "no {call}");
+        let name = name_here(&call);
+        assert!(here.contains(&format!("pub fn {name}(")), "no {call}");
     }
 }

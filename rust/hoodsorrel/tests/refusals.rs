@@ -5,7 +5,7 @@ use std::fs;
 use std::path::Path;
 
 use hoodsorrel::bits::*;
-use hoodsorrel::display::triangles;
+use hoodsorrel::display::{Shown, triangles};
 use hoodsorrel::payload::*;
 use hoodsorrel::scene::scene;
 use hoodsorrel::{Given, Refusal, viewer};
@@ -254,6 +254,48 @@ fn displays(met: &mut Met) {
     met.refused("triangles", 12, triangles(&[0, 0, 0, 0, 3], &mut [0; 2]));
 }
 
+/// Lists that are refused themselves, and numbers that are refused.
+fn lists(met: &mut Met) {
+    let records = [0, 0, 0, 0, 3].repeat(65);
+    let mut two = Shown::none();
+    let mut all = Shown::none();
+    for number in 0..64 {
+        all.show(number, &records).expect("64 are shown at most");
+    }
+    for number in [7, 5] {
+        two.show(number, &records).expect("a record's number");
+    }
+    let mut repeated = two.clone();
+    repeated.entries[1] = 7;
+    let mut unknown = two.clone();
+    unknown.entries[0] = 65;
+    unknown.total = 3;
+    let bad = [
+        Shown {
+            count: 65,
+            ..all.clone()
+        },
+        repeated,
+        unknown,
+        Shown {
+            total: 7,
+            ..two.clone()
+        },
+    ];
+    let show = |list: &Shown, number| list.clone().show(number, &records);
+    let hide = |list: &Shown, number| list.clone().hide(number, &records);
+    for list in &bad {
+        met.refused("Shown::show", 19, show(list, 7));
+        met.refused("Shown::hide", 19, hide(list, 9));
+    }
+    met.refused("Shown::show", 19, show(&two, 65));
+    met.refused("Shown::show", 19, show(&two, 5));
+    met.refused("Shown::show", 19, show(&all, 5));
+    met.refused("Shown::show", 21, show(&all, 64));
+    met.refused("Shown::hide", 19, hide(&two, 65));
+    met.refused("Shown::hide", 20, hide(&two, 6));
+}
+
 /// The rows of the table by call: `| CALL, CALL | NUMBERS |`, where a call stands in backticks.
 fn promised() -> BTreeSet<(String, u8)> {
     let path = Path::new(env!("CARGO_MANIFEST_DIR")).join("../../docs/REFUSALS.md");
@@ -284,6 +326,7 @@ fn each_call_with_each_of_its_refusals() {
     meshes(&mut met);
     scenes(&mut met);
     displays(&mut met);
+    lists(&mut met);
     assert_eq!(met.0, promised());
 }
 

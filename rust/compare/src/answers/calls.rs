@@ -23,7 +23,7 @@ const fn call(
 }
 
 /// The first one has number 1.
-pub const CALLS: [Call; 63] = [
+pub const CALLS: [Call; 66] = [
     call("byte_new", &[], "-", "words"),
     call("position", &["at"], "-", "words"),
     call("remaining", &["at"], "bytes", "words"),
@@ -174,4 +174,17 @@ pub const CALLS: [Call; 63] = [
         "words numbers",
     ),
     call("texture_points", &["textures"], "payload", "words textures"),
+    call("none_shown", &["list"], "-", "words list"),
+    call(
+        "show",
+        &["total", "count", "number", "list", "given", "records"],
+        "given records",
+        "words list",
+    ),
+    call(
+        "hide",
+        &["total", "count", "number", "list", "given", "records"],
+        "given records",
+        "words list",
+    ),
 ];

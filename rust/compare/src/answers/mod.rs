@@ -18,6 +18,7 @@ mod put;
 mod records;
 mod runs;
 mod scenes;
+mod shown;
 mod spheres;
 mod textures;
 mod view;
@@ -34,7 +35,7 @@ use line::List;
 type Group = (&'static str, fn(&mut List, &mut Random));
 
 /// Each takes random numbers of its own name.
-const GROUPS: [Group; 21] = [
+const GROUPS: [Group; 22] = [
     ("answers bytes", bytes::add),
     ("answers fields", fields::add),
     ("answers numbers", numbers::add),
@@ -56,6 +57,7 @@ const GROUPS: [Group; 21] = [
     ("answers measured", bodies::add_measured),
     ("answers records", records::add),
     ("answers textures", textures::add),
+    ("answers shown", shown::add),
 ];
 
 const SOURCE: &str = "\

@@ -1,9 +1,12 @@
 //! What a display makes of the records of a drawing.
 
 pub mod model;
+pub mod plain_list;
 pub mod records;
+pub mod shown;
+pub mod spoils;
 pub mod triangles;
 
 use crate::Subject;
 
-pub const SUBJECTS: &[Subject] = &[("triangles", triangles::run)];
+pub const SUBJECTS: &[Subject] = &[("triangles", triangles::run), ("shown", shown::run)];
