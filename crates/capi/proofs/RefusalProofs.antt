@@ -98,6 +98,8 @@ never-sixteen =
             triangles = λ records buffers words e. disp.never-sixteen .triangles records buffers (crossed _ words e);
             show = λ records s n words e. disp.never-sixteen .show records s n (crossed _ words e);
             hide = λ records s n words e. disp.never-sixteen .hide records s n (crossed _ words e);
+            share-points = λ points wishes buffers words e.
+                disp.never-sixteen .share-points points wishes buffers (crossed _ words e);
           };
       none-shown = λ buffers f e. unlisted-12 16 refl (list-refusals .none-shown buffers) (crossed _ f e);
       lists = not-lists;

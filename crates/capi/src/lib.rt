@@ -32,6 +32,7 @@ pub mod put;
 pub mod records;
 pub mod runs;
 pub mod scene_call;
+pub mod shares;
 pub mod shown;
 pub mod view;
 

@@ -19,3 +19,8 @@ pub mod ClosingLaws
 pub mod ShownCallLaws
 pub mod ShownProofs
 pub mod ShownMarkedProofs
+pub mod LevelTurns
+pub mod LevelLaws
+pub mod SharingLaws
+pub mod TurnProofs
+pub mod ShareMarkedProofs

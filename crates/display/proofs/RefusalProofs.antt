@@ -10,6 +10,7 @@ use Rattle.payload.proofs.LentLaws.{answer-refuses}
 use Rattle.display.specs.Triangles.{recordsUsable, trianglesMade}
 use Rattle.display.specs.ShownRules.{showing, hiding, isRecord, ruled}
 use Rattle.display.specs.ShownKept.{shownNumbers, shownUsable, called}
+use Rattle.display.specs.Turns.{shareable, sharing}
 use Rattle.display.specs.Refusals.{Refusals, NeverSixteen}
 use Rattle.display.specs.declared.shown.Shown.{Shown}
 
@@ -36,12 +37,18 @@ module _ (words : List ℕ) (s : Shown) (n : ℕ) where
       (refuses 19 refl))
       (refuses 19 refl)
 
+sharing-refuses : (points : ℕ) (wishes : List ℕ) → Refuses (26 ∷ []) (sharing points wishes)
+unfolding sharing
+sharing-refuses points wishes = cond-refuses (shareable points wishes) (gives _) (refuses 26 refl)
+
 pub refusals : Refusals
 refusals =
     record {
       triangles = λ words buffers. answer-refuses buffers (mapped-refuses _ (made-refuses words));
       show = λ words s n. mapped-refuses _ (show-refuses words s n);
       hide = λ words s n. mapped-refuses _ (hide-refuses words s n);
+      share-points = λ points wishes buffers.
+          answer-refuses buffers (mapped-refuses _ (sharing-refuses points wishes));
     }
 
 pub never-sixteen : NeverSixteen
@@ -50,4 +57,5 @@ never-sixteen =
       triangles = λ words buffers. unlisted-12 16 refl (refusals .triangles words buffers);
       show = λ words s n. unlisted 16 refl (refusals .show words s n);
       hide = λ words s n. unlisted 16 refl (refusals .hide words s n);
+      share-points = λ points wishes buffers. unlisted-12 16 refl (refusals .share-points points wishes buffers);
     }

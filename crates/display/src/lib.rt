@@ -1,14 +1,16 @@
-// What a display makes of the records of a drawing. Any words may be handed in as records: each call judges what it is
-// handed before it changes anything, so a refusal leaves all as it was.
+// What a display makes of the records of a drawing, and how it shares out a frame. Any words may be handed in: each
+// call judges what it is handed before it changes anything, so a refusal leaves all as it was.
 use payload::Record;
 ghost use mathlib.Core.Path.{_≡_};
 ghost use Prim.Native.Nat.{_+_, _≤_};
 ghost use lib.ListN.{length};
 ghost use Rattle.display.specs.Internal.{recordAt};
 
+mod shares;
 mod shown;
 mod triangulation;
 
+pub use shares::share_points;
 pub use shown::Change;
 pub use shown::Shown;
 pub use shown::ShownAnswer;

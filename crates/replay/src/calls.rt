@@ -15,12 +15,14 @@ mod put;
 mod records;
 mod runs;
 mod scene_call;
+mod shares;
 mod shown;
 mod unpack;
 mod view;
 
 use crate::sum;
 use arguments::answer_bits;
+use arguments::word;
 
 // What a call answered, as 64 bits, and the sum of what it was lent; or that a length is above its bound.
 pub enum Outcome {
@@ -29,7 +31,7 @@ pub enum Outcome {
 }
 
 // The numbers of the calls are below this. 0 is that of a line that cannot be read.
-pub const CALLS: usize = 67;
+pub const CALLS: usize = 68;
 
 // The words that are lent, as they are before a call.
 const WORDS: [u64; 8] = [0xa5a5_a5a5_a5a5_a5a5; 8];
@@ -238,6 +240,7 @@ pub fn call(call: usize, args: &[u64; 10], data: &[u8]) -> Outcome {
         0x23 | 0x24 => meshes::mesh_body(call, args, data),
         0x3e => records::lend_triangles(data, args[0], args[1]),
         0x41 | 0x42 => shown::lend_list(call, args, data, args[3], args[4], args[5]),
+        0x43 => shares::lend_shares(word(args[0]), data, args[1], args[2]),
         0x0c | 0x0e..=0x12 | 0x15 | 0x1f | 0x2a | 0x2b | 0x2d | 0x2f | 0x30 | 0x32 | 0x33 => {
             answer_unlent(call, args, data)
         }

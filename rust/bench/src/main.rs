@@ -12,6 +12,7 @@ mod meshes;
 mod random;
 mod readers;
 mod scene;
+mod shares;
 mod timing;
 mod triangles;
 mod writer;
@@ -39,6 +40,7 @@ fn run(words: &[&str]) -> Result<(), String> {
             writer::table,
             scene::table,
             triangles::table,
+            shares::table,
         ]
         .iter()
         .try_for_each(|table| table()),

@@ -25,3 +25,5 @@ pub const THIRD_MESH: i64 = 18;
 pub const LIST_OR_NUMBER: i64 = 19;
 pub const NOT_SHOWN: i64 = 20;
 pub const LIST_FULL: i64 = 21;
+/// Windows, points or wishes are out of range.
+pub const SHARES: i64 = 26;

@@ -1,4 +1,4 @@
-//! What a display makes of the records of a drawing.
+//! What a display makes of the records of a drawing, and how it shares a frame's points out.
 //!
 //! Any words may be handed in as records: each call judges what it is handed before it changes anything, so a refusal
 //! leaves all as it was.
@@ -34,6 +34,32 @@ use crate::{memory, raw};
 /// ```
 pub fn triangles(records: &[u32], out: &mut [u32]) -> Result<usize, Refusal> {
     word(|words| raw::triangles(records, out, words)).map(size)
+}
+
+/// Shares a frame's points out among windows, puts the share of each into a buffer and answers how many windows there
+/// are. A window for each wish, in the order of the turns: one point a turn goes to each window whose wish is unmet,
+/// until points or wishes end. It is not worked out turn by turn: the time goes by how many different wishes are met,
+/// at most eight, and not by the points.
+///
+/// Every window gets at least the smaller of its wish and the points divided by the windows, rounded down, and never
+/// more than its wish; all shares add up to the smaller of the points and the wishes' sum.
+///
+/// Refused with 26, then 12.
+///
+/// ```
+/// use hoodsorrel::display::share_points;
+/// use hoodsorrel::{Needed, Refusal};
+///
+/// let mut shares = [0; 3];
+/// assert_eq!(share_points(8, &[3, 9, 1], &mut shares), Ok(3));
+/// assert_eq!(shares, [3, 4, 1]);
+///
+/// assert_eq!(share_points(8, &[3, 9, 1], &mut [0; 2]), Err(Refusal::BufferTooShort(Needed::One(3))));
+/// assert_eq!(share_points(1_000_000, &[3, 9, 1], &mut shares), Err(Refusal::Shares));
+/// assert_eq!(share_points(8, &[], &mut shares), Err(Refusal::Shares));
+/// ```
+pub fn share_points(points: u32, wishes: &[u32], shares: &mut [u32]) -> Result<usize, Refusal> {
+    word(|words| raw::share_points(points, wishes, shares, words)).map(size)
 }
 
 impl Drawing {

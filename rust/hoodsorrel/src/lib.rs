@@ -8,7 +8,8 @@
 //! - [`scene`]: a payload of any kind becomes its drawing, with buffers of its own ([`Drawing::of`]) or lent ones.
 //! - [`payload`]: readers, measuring calls and writers of the three kinds, meshes as tables, index makers, cube maps,
 //!   counts, the viewer's small calls.
-//! - [`display`]: what a display makes of a drawing's records: triangles, submeshes shown and hidden.
+//! - [`display`]: what a display makes of a drawing's records: triangles, submeshes shown and hidden; and how it shares
+//!   a frame's points out.
 //! - [`bits`]: cursors, fields, runs, numbers, floats, box headers.
 //! - [`viewer`]: the five calls of the viewer's own library.
 //!

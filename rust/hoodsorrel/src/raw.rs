@@ -167,6 +167,7 @@ calls! {
         list: &mut [u32], count: u32, total: u64, number: u32, records: &[u32], words: &mut [u64]);
     capi_hide as hide(
         list: &mut [u32], count: u32, total: u64, number: u32, records: &[u32], words: &mut [u64]);
+    capi_share_points as share_points(points: u32, wishes: &[u32], shares: &mut [u32], words: &mut [u64]);
 }
 
 // The five functions of libviewer.a.

@@ -73,6 +73,8 @@ pub enum Refusal {
     NotShown,
     /// 21: 64 are shown, and no more can be.
     ListFull,
+    /// 26: no window or more than eight, or points or a wish of 1,000,000 or more.
+    Shares,
 }
 
 /// The lengths that 12 tells.
@@ -87,7 +89,7 @@ pub enum Needed {
 }
 
 impl Refusal {
-    /// 1 to 21.
+    /// 1 to 21, and 26.
     pub const fn number(self) -> u8 {
         match self {
             Refusal::Kind => 1,
@@ -111,6 +113,7 @@ impl Refusal {
             Refusal::ListOrNumber => 19,
             Refusal::NotShown => 20,
             Refusal::ListFull => 21,
+            Refusal::Shares => 26,
         }
     }
 
@@ -121,11 +124,11 @@ impl Refusal {
     ///
     /// assert_eq!(Refusal::from_number(8), Some(Refusal::RunningNumber));
     /// assert_eq!(Refusal::from_number(21), Some(Refusal::ListFull));
-    /// assert_eq!([0, 12, 22].map(Refusal::from_number), [None; 3]);
+    /// assert_eq!([0, 12, 22, 25, 27].map(Refusal::from_number), [None; 5]);
     /// ```
     pub fn from_number(number: u8) -> Option<Refusal> {
         match number {
-            1..=11 | 13..=21 => Some(Refusal::of_code(-i64::from(number), Needed::One(0))),
+            1..=11 | 13..=21 | 26 => Some(Refusal::of_code(-i64::from(number), Needed::One(0))),
             _ => None,
         }
     }
@@ -175,6 +178,9 @@ impl Refusal {
             }
             Refusal::NotShown => "the number is not shown",
             Refusal::ListFull => "64 are shown",
+            Refusal::Shares => {
+                "there is no window or more than eight, or points or a wish are 1,000,000 or more"
+            }
         }
     }
 
@@ -210,6 +216,7 @@ impl Refusal {
             -19 => Refusal::ListOrNumber,
             -20 => Refusal::NotShown,
             -21 => Refusal::ListFull,
+            -26 => Refusal::Shares,
             _ => Refusal::CountTooLarge,
         }
     }
@@ -248,7 +255,7 @@ mod tests {
     use super::{Needed, Refusal};
 
     fn numbers() -> impl Iterator<Item = u8> {
-        1..=21
+        (1..=21).chain([26])
     }
 
     #[test]

@@ -5,7 +5,7 @@ use std::fs;
 use std::path::Path;
 
 use hoodsorrel::bits::*;
-use hoodsorrel::display::{Shown, triangles};
+use hoodsorrel::display::{Shown, share_points, triangles};
 use hoodsorrel::payload::*;
 use hoodsorrel::scene::scene;
 use hoodsorrel::{Given, Refusal, viewer};
@@ -252,6 +252,12 @@ fn displays(met: &mut Met) {
         met.refused("triangles", 15, triangles(records, &mut []));
     }
     met.refused("triangles", 12, triangles(&[0, 0, 0, 0, 3], &mut [0; 2]));
+    let share = |points, wishes: &[u32]| share_points(points, wishes, &mut []);
+    for wishes in [&[][..], &[1; 9], &[1, 1_000_000], &[MOST]] {
+        met.refused("share_points", 26, share(5, wishes));
+    }
+    met.refused("share_points", 26, share(1_000_000, &[1]));
+    met.refused("share_points", 12, share(999_999, &[999_999; 8]));
 }
 
 /// Lists that are refused themselves, and numbers that are refused.

@@ -23,7 +23,7 @@ const fn call(
 }
 
 /// The first one has number 1.
-pub const CALLS: [Call; 66] = [
+pub const CALLS: [Call; 67] = [
     call("byte_new", &[], "-", "words"),
     call("position", &["at"], "-", "words"),
     call("remaining", &["at"], "bytes", "words"),
@@ -186,5 +186,11 @@ pub const CALLS: [Call; 66] = [
         &["total", "count", "number", "list", "given", "records"],
         "given records",
         "words list",
+    ),
+    call(
+        "share_points",
+        &["points", "wishes", "shares"],
+        "wishes",
+        "words shares",
     ),
 ];

@@ -18,6 +18,7 @@ mod put;
 mod records;
 mod runs;
 mod scenes;
+mod shares;
 mod shown;
 mod spheres;
 mod textures;
@@ -35,7 +36,7 @@ use line::List;
 type Group = (&'static str, fn(&mut List, &mut Random));
 
 /// Each takes random numbers of its own name.
-const GROUPS: [Group; 22] = [
+const GROUPS: [Group; 23] = [
     ("answers bytes", bytes::add),
     ("answers fields", fields::add),
     ("answers numbers", numbers::add),
@@ -58,6 +59,7 @@ const GROUPS: [Group; 22] = [
     ("answers records", records::add),
     ("answers textures", textures::add),
     ("answers shown", shown::add),
+    ("answers shares", shares::add),
 ];
 
 const SOURCE: &str = "\
