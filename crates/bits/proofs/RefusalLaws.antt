@@ -22,6 +22,7 @@ module _ {ks : List ℕ} where
   pub remade : {A B C : Type 0} (f : A → B) (g : A → C) (v : Verdict A) → Refuses ks (mapped f v) → Refuses ks (mapped g v)
   remade f g (accepted a) r = gives (g a)
   remade f g (declined j) (refuses k h) = refuses k h
+  remade f g (needs _) r = elim r [ ]
 
   pub cond_refuses : {A : Type 0} {u v : Verdict A} (b : Bool) → Refuses ks u → Refuses ks v → Refuses ks (cond b u v)
   cond_refuses true r q = r

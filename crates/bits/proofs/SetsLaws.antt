@@ -1,5 +1,5 @@
 -- Laws of stores in a row: `sets d o l` is d with the list l from place o on. Assumes nothing.
-use Rattle.std.proofs.Common.{◌≡◌, ℕ, suc, ◌+◌, ◌≤◌, List, [], ◌∷◌, ◌++◌, length, drop, set, sym, ap, ◌∙◌, append-nil, add-zero, add-suc, suc-add, arith, drop_of_length-le}
+use Rattle.std.proofs.Common.{◌≡◌, ℕ, suc, ◌+◌, List, [], ◌∷◌, ◌++◌, length, set, sym, ap, ◌∙◌, append-nil, add-zero, add-suc, suc-add, arith, drop_of_length-le}
 use lib.Seq.{sets, sets-eq}
 
 pub sets-append : (p q d : List ℕ) (o : ℕ) → sets d o (p ++ q) ≡ sets (sets d o p) (o + length p) q

@@ -1,5 +1,5 @@
 -- Whether a run lies inside: one law for each way through the test, and what it tells. Assumes nothing.
-use Rattle.std.proofs.Common.{◌≡◌, ℕ, ◌+◌, ◌-◌, ◌*◌, ◌%◌, ◌<◌, ◌≤◌, Bool, true, false, cond, leb, ◌⊎◌, List, [], ◌∷◌, length, sym, refl, ap, ◌∙◌, inl, inr, mul-le-mul_left, arith, eq-eqb, ne_eqb, le-leb, leb-true}
+use Rattle.std.proofs.Common.{◌≡◌, ℕ, ◌+◌, ◌-◌, ◌*◌, ◌%◌, ◌<◌, ◌≤◌, true, false, leb, ◌⊎◌, List, length, sym, ◌∙◌, inl, inr, mul-le-mul_left, arith, eq-eqb, ne_eqb, le-leb, leb-true}
 use borrow.Author.Tests.{lt-leb}
 use Rattle.bits.specs.Run.{zeros, summed, run_there, run_filled, fives_there, fives_filled}
 use Rattle.bits.specs.Internal.{Inside}

@@ -1,5 +1,5 @@
 -- What the contracts of private functions cite. No promise of a public call leans on these.
-use Rattle.std.specs.Prelude.{◌≡◌, ℕ, ◌+◌, ◌-◌, ◌*◌, ◌<◌, ◌≤◌, Bool, cond, ◌&&◌, List, [], ◌∷◌, length, nat_lt}
+use Rattle.std.specs.Prelude.{◌≡◌, ℕ, ◌+◌, ◌-◌, ◌*◌, ◌≤◌, Bool, cond, ◌&&◌, List, [], ◌∷◌, length, nat_lt}
 use Rattle.bits.specs.Verdict.{Verdict, accepted, declined}
 use Rattle.bits.specs.Field.{field, held_bits, gathered}
 use Rattle.bits.specs.Number.{stepped_to}

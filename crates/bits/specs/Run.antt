@@ -3,7 +3,7 @@
 use Rattle.std.specs.Prelude.{ℕ, zero, suc, ◌+◌, ◌*◌, ◌%◌, ◌<◌, ◌≤◌, Bool, cond, ◌&&◌, List, [], ◌∷◌, ◌++◌, length, drop, ◌==◌, nat_le, slice_index}
 use Rattle.bits.specs.Verdict.{Verdict, accepted, declined, and_then, mapped}
 use Rattle.bits.specs.Field.{field}
-use Rattle.bits.specs.Number.{Moves, ran_on, stepped_to, width_of}
+use Rattle.bits.specs.Number.{Moves, ran_on, stepped_to}
 use Rattle.bits.specs.declared.fields.runs.RunCheck.{RunCheck}
 use Rattle.bits.specs.declared.fields.runs.RunCheck.TheVariants as R
 

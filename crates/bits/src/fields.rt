@@ -10,13 +10,13 @@ use super::bytes::word_of;
 pub use runs::{Run, RunCheck, check_fives, check_run, fill_fives, fill_run};
 
 // A place in a slice, counted in bits from the high bit of byte 0. It may lie past the end.
-#[derive(Drop)]
+#[derive(Clone, Copy)]
 pub struct BitCursor {
     pub bit: usize,
 }
 
 // A field and the place after it, too few bits, or a width above 32.
-#[derive(Drop)]
+#[derive(Clone, Copy)]
 pub enum FieldRead {
     Value(u32, BitCursor),
     Short,
@@ -24,7 +24,7 @@ pub enum FieldRead {
 }
 
 // Two neighbouring fields and the place after both, too few bits for both, or a width above 32.
-#[derive(Drop)]
+#[derive(Clone, Copy)]
 pub enum TwoRead {
     Values(u32, u32, BitCursor),
     Short,
@@ -112,7 +112,7 @@ fn low_bits(x: u64, w: u32) -> u32
 }
 
 // Two neighbouring fields.
-#[derive(Drop)]
+#[derive(Clone, Copy)]
 struct Two {
     a: u32,
     b: u32,

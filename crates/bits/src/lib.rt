@@ -1,6 +1,8 @@
 // Bytes and bits of a payload: cursors, fields, zigzag numbers, box headers, floats, and words and fields put into a
 // buffer.
 // What each call answers is an equation with a definition of specs/.
+#![tactic(auto)]
+
 mod bytes;
 mod fields;
 mod floats;

@@ -4,7 +4,7 @@ ghost use Rattle.std.proofs.lemmas.List.Edits.{sets};
 ghost use Rattle.bits.specs.Put.{bytes_of, word_put, word_put_answer, field_put, field_put_answer, put_says};
 
 // It is put, the buffer would need this length, or a field's width is above 32.
-#[derive(Drop)]
+#[derive(Clone, Copy)]
 pub enum Put {
     Done,
     Needs(usize),

@@ -14,7 +14,7 @@ use crate::numbers::{bit_width, stepped};
 
 // Where the first field stands, what the running numbers stay below, and how many fields there are, or how many fives
 // of fields. A field is as wide as `bit_width` of the limit.
-#[derive(Drop)]
+#[derive(Clone, Copy)]
 pub struct Run {
     pub bit: usize,
     pub limit: u16,
@@ -22,7 +22,7 @@ pub struct Run {
 }
 
 // The run is good, or the number of a refusal.
-#[derive(Drop)]
+#[derive(Clone, Copy)]
 pub enum RunCheck {
     Good,
     Declined(u8),
@@ -38,7 +38,7 @@ fn low_half(x: u64) -> u16
 // ---- field by field, wherever the fields stand
 
 // Five running numbers, in the order in which their fields come.
-#[derive(Drop)]
+#[derive(Clone, Copy)]
 struct Five {
     a: u16,
     b: u16,
@@ -209,7 +209,7 @@ pub fn check_run(s: &[u8], run: Run) -> RunCheck
 // ---- five running numbers, which take turns
 
 // Where five fields take them: below 0 they stand far above every limit.
-#[derive(Drop)]
+#[derive(Clone, Copy)]
 struct Moved {
     a: u64,
     b: u64,
@@ -219,7 +219,7 @@ struct Moved {
 }
 
 // Five neighbouring fields.
-#[derive(Drop)]
+#[derive(Clone, Copy)]
 struct Fields {
     a: u32,
     b: u32,

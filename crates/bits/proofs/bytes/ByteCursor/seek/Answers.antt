@@ -1,0 +1,11 @@
+-- `ByteCursor::seek` meets its contract. Assumes nothing.
+use Rattle.std.proofs.Common.{length, sym, arith}
+use Rattle.bits.specs.Verdict.{declined}
+use Rattle.bits.proofs.VerdictLaws.{within_yes, within_no}
+use Rattle.bits.proofs.bytes.ByteCursor.seek.Goals as goal
+
+pub returns-then-to-s : goal.returns-then-to-s
+returns-then-to-s c = let a = c.args in sym (within_yes a.to (length a.s.now) a.to (declined 3) (omega (arith, c.if-to-s.true)))
+
+pub returns-else-to-s : goal.returns-else-to-s
+returns-else-to-s c = let a = c.args in sym (within_no a.to (length a.s.now) a.to (declined 3) (omega (arith, c.if-to-s.false)))

@@ -1,0 +1,19 @@
+-- `put_five` meets its contract. Assumes nothing.
+use Rattle.std.proofs.Common.{arith, length-set}
+use Rattle.bits.proofs.SetsLaws.{set-five}
+use Rattle.bits.proofs.fields.runs.put_five.Goals as goal
+
+pub bounds-out-at-2 : goal.bounds-out-at-2
+bounds-out-at-2 c = simp length-set (omega arith)
+
+pub bounds-out-at-3 : goal.bounds-out-at-3
+bounds-out-at-3 c = simp length-set (omega arith)
+
+pub bounds-out-at-4 : goal.bounds-out-at-4
+bounds-out-at-4 c = simp length-set (omega arith)
+
+pub bounds-out-at-5 : goal.bounds-out-at-5
+bounds-out-at-5 c = simp length-set (omega arith)
+
+pub returns : goal.returns
+returns c = let a = c.args in set-five a.out.now a.at a.v.a a.v.b a.v.c a.v.d a.v.e
