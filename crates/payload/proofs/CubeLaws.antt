@@ -1,8 +1,7 @@
 -- Laws of the cube map: its numbers stay small, how long its lists are, and the ways through its refusals. Assumes nothing.
-use Rattle.std.proofs.Common.{◌≡◌, ℕ, ◌+◌, ◌*◌, ◌^◌, ◌<◌, ◌≤◌, Bool, true, false, not, ◌&&◌, T, leb, [], ◌∷◌, length, pos, sym, refl, ap, ◌∙◌, mul_assoc, add-mul, mul-le-mul, one-mul, arith, le→leb, leb-true}
+use Rattle.std.proofs.Common.{◌≡◌, ℕ, ◌+◌, ◌*◌, ◌^◌, ◌<◌, ◌≤◌, Bool, true, false, ◌&&◌, T, leb, [], ◌∷◌, length, pos, sym, refl, ap, ◌∙◌, mul_assoc, add-mul, mul-le-mul, one-mul, arith, le→leb, leb-true}
 use lib.Ieee.{Float, binary32, in_float}
 use lib.Ieee.Scale.{finite}
-use borrow.Author.Tests.{not-true, not-false}
 use Rattle.bits.specs.Verdict.{accepted, declined}
 use Rattle.payload.specs.Cube.{cells_usable, cube_vertex, cube_cell, cube_row, cube_face, cube_triangles, cube_numbers, share_usable, cube_point, point_row, point_face, cube_points, cube_floats}
 use Rattle.payload.specs.declared.cube.Face.{Face}
@@ -79,28 +78,28 @@ right false true e = refl
 right false false e = e
 
 module _ (cells : ℕ) (u : Bool) (tested : u ≡ cells_usable cells) where
-  pub numbers_no : not u ≡ true → cube_numbers cells ≡ declined 9
+  pub numbers_no : u ≡ false → cube_numbers cells ≡ declined 9
   unfolding cube_numbers
-  numbers_no h = rw (sym tested, not-true u h)
+  numbers_no h = rw (sym tested, h)
 
-  pub floats_no : (radius share : Float) → not u ≡ true → cube_floats cells radius share ≡ declined 9
+  pub floats_no : (radius share : Float) → u ≡ false → cube_floats cells radius share ≡ declined 9
   unfolding cube_floats
-  floats_no radius share h = rw (sym tested, not-true u h)
+  floats_no radius share h = rw (sym tested, h)
 
-  module _ (yes : not u ≡ false) where
+  module _ (yes : u ≡ true) where
     pub cells_small : cells ≤ 103
     unfolding cells_usable
-    cells_small = leb-true cells 103 (right (leb 1 cells) (leb cells 103) (sym tested ∙ not-false u yes))
+    cells_small = leb-true cells 103 (right (leb 1 cells) (leb cells 103) (sym tested ∙ yes))
 
     pub numbers_yes : cube_numbers cells ≡ accepted (cube_triangles cells)
     unfolding cube_numbers
-    numbers_yes = rw (sym tested, not-false u yes)
+    numbers_yes = rw (sym tested, yes)
 
     module _ (radius share : Float) (r s : Bool) (finite? : r ≡ finite radius) (share? : s ≡ share_usable share) where
-      pub floats_odd : not (r && s) ≡ true → cube_floats cells radius share ≡ declined 11
+      pub floats_odd : (r && s) ≡ false → cube_floats cells radius share ≡ declined 11
       unfolding cube_floats
-      floats_odd h = rw (sym tested, not-false u yes, sym finite?, sym share?, not-true (r && s) h)
+      floats_odd h = rw (sym tested, yes, sym finite?, sym share?, h)
 
-      pub floats_yes : not (r && s) ≡ false → cube_floats cells radius share ≡ accepted (cube_points cells radius share)
+      pub floats_yes : (r && s) ≡ true → cube_floats cells radius share ≡ accepted (cube_points cells radius share)
       unfolding cube_floats
-      floats_yes h = rw (sym tested, not-false u yes, sym finite?, sym share?, not-false (r && s) h)
+      floats_yes h = rw (sym tested, yes, sym finite?, sym share?, h)

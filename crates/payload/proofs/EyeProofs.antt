@@ -1,11 +1,11 @@
 -- The theorems of specs/EyeLaws.antt. Assumes nothing.
 use Rattle.std.proofs.Common.{◌≡◌, ℕ, zero, suc, ◌+◌, ◌-◌, ◌*◌, ◌<◌, ◌≤◌, List, [], ◌∷◌, ◌++◌, length, get_or, refl, ap, ◌∙◌, append-nil, arith, get_or-append-add}
-use Rattle.bits.specs.Verdict.{Verdict, accepted, declined, and_then}
+use Rattle.bits.specs.Verdict.{accepted, declined}
 use Rattle.bits.proofs.VerdictLaws.{then_yes, then_no}
 use Rattle.payload.specs.Mesh.{Submesh, Mesh}
-use Rattle.payload.specs.MeshSpells.{header_bytes, type_at, body_at, end_at, mesh_type, part, WholeBox}
+use Rattle.payload.specs.MeshSpells.{type_at, body_at, end_at, mesh_type, part, WholeBox}
 use Rattle.payload.specs.MeshSpells.{ends, holds, skips}
-use Rattle.payload.specs.MeshRead.{read_mesh, read_mesh_box, read_from, read_meshes}
+use Rattle.payload.specs.MeshRead.{read_mesh, read_from}
 use Rattle.payload.specs.MeshDrawing.{submesh_records, point_count, records_from, first_eye}
 use Rattle.payload.specs.EyeLaws.{BoxesUpTo, EyeLaws}
 use Rattle.payload.proofs.BoxReadLaws.{header_bad, header_whole, mesh_then, more_declined, more_mesh, more_other}
@@ -14,19 +14,19 @@ use Rattle.payload.proofs.MeshTheorems.{meshes_reads}
 use Rattle.payload.proofs.MeasureLaws.{submesh_records_lem}
 
 -- boxes that were read leave the refusal to what comes after them, where so many meshes fewer may come
-pub after_boxes : {s : List ℕ} {p q : ℕ} {l : List Mesh} → BoxesUpTo s p q l → (more k : ℕ) → length l ≤ more
+pub after_boxes : {s : List ℕ} {q p : ℕ} {l : List Mesh} → BoxesUpTo s p q l → (more k : ℕ) → length l ≤ more
     → read_from s (more - length l) q ≡ declined k → read_from s more p ≡ declined k
-after_boxes {s} {p} (ends i) more k h e =
+after_boxes {s = s} {p = p} (ends i) more k h e =
     let z : more - 0 ≡ more = omega arith in
     rw (z, ← i) at e
 after_boxes (holds b y m r) zero k h e = absurd (omega arith)
-after_boxes {s} {p} {q} (holds {x = x} {l = l} b y m r) (suc more) k h e =
+after_boxes {s = s} {q = q} {p = p} (holds {x = x} {l = l} b y m r) (suc more) k h e =
     let f = spells_mesh (part s (body_at s p) (end_at s p)) x m in
     let z : suc more - suc (length l) ≡ more - length l = omega arith in
     more_mesh s (suc more) p (type_at s p) (body_at s p) (end_at s p) (header_whole s p b) y
     ∙ then_yes (read_mesh (part s (body_at s p) (end_at s p))) (mesh_then (read_from s more (end_at s p))) (x, f.0) f.1
     ∙ then_no (read_from s more (end_at s p)) (λ l. accepted (x ∷ l)) k (after_boxes r more k (omega arith) (rw z at e))
-after_boxes {s} {p} (skips b n r) more k h e =
+after_boxes {s = s} {p = p} (skips b n r) more k h e =
     more_other s more p (type_at s p) (body_at s p) (end_at s p) (header_whole s p b) n ∙ after_boxes r more k h e
 
 -- a mesh box where one more may come is refused as its body is

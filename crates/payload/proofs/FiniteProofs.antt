@@ -1,5 +1,5 @@
 -- The theorems of specs/FiniteLaws.antt. Assumes nothing.
-use Rattle.std.proofs.Common.{◌≡◌, ℕ, zero, suc, ◌+◌, ◌*◌, ◌<◌, ◌≤◌, Bool, true, false, List, [], ◌∷◌, length, get_or, sym, refl, ap, ◌∙◌, arith}
+use Rattle.std.proofs.Common.{◌≡◌, ℕ, zero, suc, ◌+◌, ◌*◌, ◌<◌, Bool, true, false, List, [], ◌∷◌, get_or, sym, refl, ◌∙◌, arith}
 use mathlib.Core.List.{Memᴰ}
 use lib.Ieee.{of_bits, of_fields, odd}
 use Rattle.bits.specs.Verdict.{accepted, declined}

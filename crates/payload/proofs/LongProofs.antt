@@ -1,19 +1,19 @@
 -- The theorems of specs/LongLaws.antt: reading on from a place is reading the bytes from there on, so that a box may have
 -- either size. Assumes nothing.
-use Rattle.std.proofs.Common.{◌≡◌, ℕ, zero, suc, ◌+◌, ◌-◌, ◌*◌, ◌^◌, ◌<◌, ◌≤◌, cond, eqb, ◌⊎◌, List, [], ◌∷◌, ◌++◌, length, take, drop, sym, refl, ap, ◌∙◌, ap₂, inl, inr, append_assoc, mod-eq_of_lt, arith, length-append, length-drop, take_all, drop-drop, drop_at}
+use Rattle.std.proofs.Common.{◌≡◌, ℕ, zero, suc, ◌+◌, ◌-◌, ◌*◌, ◌^◌, ◌<◌, ◌≤◌, List, [], ◌∷◌, ◌++◌, length, take, drop, sym, refl, ap, ◌∙◌, ap₂, append_assoc, mod-eq_of_lt, arith, length-append, length-drop, take_all, drop-drop, drop_at}
 use lib.Seq.{take-append_seam, drop-append_seam}
 use Rattle.bits.specs.Verdict.{Verdict, accepted, needs, declined, and_then, mapped}
 use Rattle.bits.specs.Field.{field}
 use Rattle.bits.specs.Put.{bytes_of}
 use Rattle.bits.specs.Header.{Item, list_end, box, sized, extent_of, long_extent, header_at}
-use Rattle.bits.proofs.VerdictLaws.{le-or-lt, then_yes}
+use Rattle.bits.proofs.VerdictLaws.{then_yes}
 use Rattle.bits.proofs.ByteLaws.{field-bytes_of, length_bytes}
 use Rattle.bits.proofs.FieldLaws.{field-append, field-append-right}
 use Rattle.bits.proofs.HeaderLaws.{moved_item, header_moved, header_end, extent_small, extent_past, extent_whole}
 use Rattle.bits.proofs.HeaderLaws.{long_cut, long_there}
 use Rattle.payload.specs.Mesh.{Mesh}
-use Rattle.payload.specs.MeshSpells.{header_bytes, size_at, type_at, long_size_at, mesh_type, part}
-use Rattle.payload.specs.MeshRead.{read_mesh, read_mesh_box, read_item, read_from, read_meshes}
+use Rattle.payload.specs.MeshSpells.{type_at, long_size_at, part}
+use Rattle.payload.specs.MeshRead.{read_mesh_box, read_item, read_from, read_meshes}
 use Rattle.payload.specs.MeshWrite.{tables_mesh}
 use Rattle.payload.specs.LongLaws.{short_box, long_box, Spelling, done, short, long, Fitting, LongAt, MayCome, LongLaws}
 use Rattle.payload.proofs.BoxReadLaws.{body_after, header_value, needs_same, refused_same, from_header, more_end}

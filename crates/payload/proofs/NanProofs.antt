@@ -9,7 +9,6 @@ use lib.Ieee.Scale.{finite}
 use Rattle.bits.specs.Verdict.{accepted, declined}
 use Rattle.bits.specs.Float.{bits_of}
 use Rattle.bits.proofs.VerdictLaws.{both_true, tested_value}
-use Rattle.payload.specs.Fill.{each}
 use Rattle.payload.specs.Float.{f0, f½, f1, f2, f3, ratio, ◌⊕◌, ◌⊖◌, ◌⊗◌, ◌⊘◌}
 use Rattle.payload.specs.Sphere.{grid_usable, grid_uv, uv_row, grid_uvs, sphere_uvs}
 use Rattle.payload.specs.Cube.{cells_usable, face_table, centre, right, up, u₀, u₁, v₀, v₁, outward, position}

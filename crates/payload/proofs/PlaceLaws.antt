@@ -1,12 +1,12 @@
 -- The next mesh body by what a header says, and what it is in a list that was read. Assumes nothing.
 use Rattle.std.proofs.Common.{◌≡◌, ℕ, zero, suc, ◌+◌, ◌*◌, ◌<◌, ◌≤◌, cond, eqb, List, [], ◌∷◌, ◌++◌, length, sym, refl, ap, ◌∙◌, arith, eq-eqb, ne_eqb}
 use native.Mathlib.Decide.{ℕ_discrete}
-use Rattle.bits.specs.Verdict.{Verdict, accepted, needs, declined, and_then}
+use Rattle.bits.specs.Verdict.{Verdict, accepted, needs, declined}
 use Rattle.bits.specs.Header.{Item, list_end, box, sized, header_at}
 use Rattle.bits.proofs.HeaderLaws.{header_end}
 use Rattle.payload.specs.Mesh.{Mesh}
 use Rattle.payload.specs.MeshSpells.{type_at, body_at, end_at, mesh_type, part, WholeBox}
-use Rattle.payload.specs.MeshRead.{read_mesh, read_item, read_from}
+use Rattle.payload.specs.MeshRead.{read_mesh}
 use Rattle.payload.specs.MeshSpells.{ends, skips}
 use Rattle.payload.specs.EyeLaws.{BoxesUpTo}
 use Rattle.payload.specs.Internal.{WasRead, value_or, any_from, mesh_read, meshes_from}

@@ -26,7 +26,7 @@ odd_finite d s (suc q) k l = refl
 
 fields_finite : (s : Bool) (x t : ℕ) → finite (of_fields binary32 s x t) ≡ not (eqb x 255)
 unfolding of_fields
-fields_finite s zero t = odd_finite _ s t 0 _
+fields_finite s zero t = odd_finite 24 s t 0 149
 fields_finite s (suc x) t = go (eqb (suc x) 255) (eqb t 0)
   where
     go : (b c : Bool) → finite (cond b (cond c (inf s) nan) (odd 24 s (8388608 + t) x 149)) ≡ not b
@@ -147,23 +147,23 @@ module _ (s : List ℕ) where
   -- ---- one after the other, as `check_pool` goes
 
   -- what it says of the n words from bit p on
-  abbrev pub poolFrom : ℕ → ℕ → Verdict (Unit {0})
-  poolFrom n p = mapped nothing (many (read_word s) n p)
+  abbrev pub pool_from : ℕ → ℕ → Verdict (Unit {0})
+  pool_from n p = mapped nothing (many (read_word s) n p)
 
-  pub pool_none : (n p : ℕ) → n ≤ 0 → accepted tt ≡ poolFrom n p
+  pub pool_none : (n p : ℕ) → n ≤ 0 → accepted tt ≡ pool_from n p
   pool_none zero p z = ap (mapped nothing) (sym (many_none (read_word s) p))
   pool_none (suc n) p z = absurd (omega arith)
 
-  pub pool_stop : (n p k : ℕ) → 0 < n → read_word s p ≡ declined k → declined k ≡ poolFrom n p
+  pub pool_stop : (n p k : ℕ) → 0 < n → read_word s p ≡ declined k → declined k ≡ pool_from n p
   pool_stop zero p k z e = absurd (omega arith)
   pool_stop (suc n) p k z e = ap (mapped nothing) (sym (many_declined (read_word s) n p k e))
 
-  pub pool_next : (n p w q : ℕ) → 0 < n → read_word s p ≡ accepted (w, q) → poolFrom n p ≡ poolFrom (n - 1) q
+  pub pool_next : (n p w q : ℕ) → 0 < n → read_word s p ≡ accepted (w, q) → pool_from n p ≡ pool_from (n - 1) q
   pool_next zero p w q z e = absurd (omega arith)
   pool_next (suc n) p w q z e =
       ap (mapped nothing) (many_on (read_word s) n p w q e)
       ∙ go (many (read_word s) n q)
-      ∙ ap (λ (k : ℕ). poolFrom k q) (omega arith)
+      ∙ ap (λ (k : ℕ). pool_from k q) (omega arith)
     where
       go : (v : Found (List ℕ))
           → mapped {A = List ℕ × ℕ} nothing (and_then v (λ l. accepted (w ∷ l.0, l.1))) ≡ mapped nothing v

@@ -1,7 +1,6 @@
 -- The steps of writing a box: its fields from the start, the gap after the vertices, and the end.
 use Rattle.std.proofs.Common.{◌≡◌, ℕ, ◌+◌, ◌*◌, ◌/◌, ◌^◌, ◌≤◌, true, List, [], ◌∷◌, ◌++◌, length, sym, refl, ap, ◌∙◌, subst, append_assoc, append-nil, arith}
 use lib.Seq.{sets}
-use Rattle.bits.specs.Field.{room}
 use Rattle.bits.specs.Number.{width_of}
 use Rattle.bits.specs.Put.{bytes_of}
 use Rattle.payload.specs.Laws.{Words32}
@@ -64,33 +63,33 @@ last_at x out o a l i t g = omega (arith, g.place, i, t)
 
 module _ (pool coordinates rows points out : List ℕ) (size : ℕ)
     (e : is_mesh pool coordinates rows points ≡ true) (n : size ≡ box_size (tables_mesh pool coordinates rows points)) (room : size ≤ length out) (words : Words32 pool) where
-  abbrev pub partRest : List Field
-  partRest = gap (bits (vertex_fields (tables_mesh pool coordinates [] []))) ∷ (32, length (submeshes_of rows points)) ∷ submeshes_fields (width_of (length coordinates / 5)) (submeshes_of rows points)
+  abbrev pub part_rest : List Field
+  part_rest = gap (bits (vertex_fields (tables_mesh pool coordinates [] []))) ∷ (32, length (submeshes_of rows points)) ∷ submeshes_fields (width_of (length coordinates / 5)) (submeshes_of rows points)
 
-  abbrev pub partAll : List Field
-  partAll = (32, size) ∷ (32, mesh_type) ∷ (vertex_fields (tables_mesh pool coordinates [] []) ++ partRest)
+  abbrev pub part_all : List Field
+  part_all = (32, size) ∷ (32, mesh_type) ∷ (vertex_fields (tables_mesh pool coordinates [] []) ++ part_rest)
 
-  all_is : box_fields (tables_mesh pool coordinates rows points) ≡ partAll
+  all_is : box_fields (tables_mesh pool coordinates rows points) ≡ part_all
   unfolding mesh_fields vertex_fields
   all_is = ap (λ (k : ℕ). (32, k) ∷ (32, mesh_type) ∷ mesh_fields (tables_mesh pool coordinates rows points)) (sym n)
 
-  pub start_ready : Ready out start partAll
+  pub start_ready : Ready out start part_all
   start_ready = subst (Ready out start) all_is (box_ready (tables_mesh pool coordinates rows points) (mesh_within pool coordinates rows points words e) out (rw n at room))
 
-  pub rest_here : {o : List ℕ} {a : BitWriter} → Underway out start partAll o a partRest → Underway out start partAll o a (rest_fields a.bits (length coordinates / 5) (submeshes_of rows points))
+  pub rest_here : {o : List ℕ} {a : BitWriter} → Underway out start part_all o a part_rest → Underway out start part_all o a (rest_fields a.bits (length coordinates / 5) (submeshes_of rows points))
   unfolding mesh_fields vertex_fields
   rest_here {o} {a} w =
-      let g : Advances out start (box_fields (tables_mesh pool coordinates rows points)) o a partRest = subst (λ (l : List Field). Advances out start l o a partRest) (sym all_is) w.1 in
+      let g : Advances out start (box_fields (tables_mesh pool coordinates rows points)) o a part_rest = subst (λ (l : List Field). Advances out start l o a part_rest) (sym all_is) w.1 in
       let s : spare (bits (vertex_fields (tables_mesh pool coordinates rows points))) ≡ spare a.bits =
-      gap_here (tables_mesh pool coordinates rows points) (mesh_within pool coordinates rows points words e) out (rw n at room) partRest refl g in
-      subst (λ (k : ℕ). Underway out start partAll o a ((k, 0) ∷ (32, length (submeshes_of rows points)) ∷ submeshes_fields (width_of (length coordinates / 5)) (submeshes_of rows points))) s w
+      gap_here (tables_mesh pool coordinates rows points) (mesh_within pool coordinates rows points words e) out (rw n at room) part_rest refl g in
+      subst (λ (k : ℕ). Underway out start part_all o a ((k, 0) ∷ (32, length (submeshes_of rows points)) ∷ submeshes_fields (width_of (length coordinates / 5)) (submeshes_of rows points))) s w
 
-  pub box_is : {o : List ℕ} {a : BitWriter} → Underway out start partAll o a [] → outcome o a [] ≡ sets out 0 (mesh_box (tables_mesh pool coordinates rows points))
+  pub box_is : {o : List ℕ} {a : BitWriter} → Underway out start part_all o a [] → outcome o a [] ≡ sets out 0 (mesh_box (tables_mesh pool coordinates rows points))
   box_is {o} {a} w =
       w.1.same [] tt
       ∙ ap (λ (l : List Field). outcome out start (l ++ [])) (sym all_is)
       ∙ box_done (tables_mesh pool coordinates rows points) (mesh_within pool coordinates rows points words e) out (rw n at room)
 
-  pub end_at_lem : {o : List ℕ} {a : BitWriter} → Underway out start partAll o a [] → a.at ≤ 67108864
+  pub end_at_lem : {o : List ℕ} {a : BitWriter} → Underway out start part_all o a [] → a.at ≤ 67108864
   end_at_lem {o} {a} w =
-      last_at (tables_mesh pool coordinates rows points) out o a partAll (ap bits (sym all_is) ∙ header_bits (tables_mesh pool coordinates rows points)) (told pool coordinates rows points e).size w.1
+      last_at (tables_mesh pool coordinates rows points) out o a part_all (ap bits (sym all_is) ∙ header_bits (tables_mesh pool coordinates rows points)) (told pool coordinates rows points e).size w.1

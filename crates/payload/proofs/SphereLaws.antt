@@ -1,6 +1,6 @@
 -- Laws of the sphere's grid: what a usable grid is, its rows by the corners of their first cell, the lengths of its lists, and the ways through what the calls put into a buffer. Assumes nothing.
 use Rattle.std.proofs.Common.{◌≡◌, ℕ, zero, suc, ◌+◌, ◌-◌, ◌*◌, ◌^◌, ◌<◌, ◌≤◌, Bool, true, false, cond, ◌&&◌, eqb, leb, [], ◌∷◌, ◌++◌, length, sym, refl, ap, ◌∙◌, ap₂, mul-le-mul_right, mul_assoc, suc-mul, mul_comm, add-mul, mul-le-mul, mul-le-mul_left, mul-add, add-one, arith, length-append, eq-eqb, ne_eqb, eqb-true, leb-true}
-use mathlib.Core.Bool.{and-eq-true_iff, and-true, and_false}
+use mathlib.Core.Bool.{and-eq-true_iff, and-true, and-false}
 use lib.Dec.{leb-suc-suc}
 use lib.Ieee.{eq}
 use mir.Val.{bool_byte}
@@ -63,7 +63,7 @@ touched : (b : Bool) (m n : ℕ) → m ≡ n → (b && eqb m n) ≡ b
 touched b m n e = rw (eq-eqb m n e) (and-true b)
 
 apart : (b : Bool) (m n : ℕ) → (m ≡ n → ⊥) → (b && eqb m n) ≡ false
-apart b m n e = rw (ne_eqb m n e) (and_false b)
+apart b m n e = rw (ne_eqb m n e) (and-false b)
 
 -- the numbers of a row's triangles, from those of its first cell on
 module _ (sectors ring : ℕ) where

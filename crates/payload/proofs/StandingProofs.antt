@@ -103,7 +103,7 @@ in_body s m p (x ∷ l) e (suc j) y n =
 
 -- ---- in a list that was read, by its first mesh
 
-joined : {s : List ℕ} {p q r : ℕ} {k l : List Mesh} → BoxesUpTo s p q k → BoxesUpTo s q r l → BoxesUpTo s p r (k ++ l)
+joined : {s : List ℕ} {q p r : ℕ} {k l : List Mesh} → BoxesUpTo s p q k → BoxesUpTo s q r l → BoxesUpTo s p r (k ++ l)
 joined (ends i) u = rw i u
 joined (holds b y m r) u = holds b y m (joined r u)
 joined (skips b n r) u = skips b n (joined r u)

@@ -198,7 +198,7 @@ unfolding records_from records_in list_weights
 list-textures_same eye first [] = refl
 list-textures_same eye first (x ∷ l) =
     textures_same eye first x.submeshes _
-    ∙ ap (λ (m : List ℕ). textures (weights x.submeshes) ++ m) (list-textures_same _ _ l)
+    ∙ ap (λ (m : List ℕ). textures (weights x.submeshes) ++ m) (list-textures_same (eye + 1) _ l)
     ∙ sym (textures-append (weights x.submeshes) (list_weights l))
 
 list_points_same : (t eye first : ℕ) (l : List Mesh)
@@ -207,7 +207,7 @@ unfolding records_from records_in list_weights points_with
 list_points_same t eye first [] = refl
 list_points_same t eye first (x ∷ l) =
     points_same t eye first x.submeshes _
-    ∙ ap (λ (m : ℕ). points_with t (weights x.submeshes) + m) (list_points_same t _ _ l)
+    ∙ ap (λ (m : ℕ). points_with t (weights x.submeshes) + m) (list_points_same t (eye + 1) _ l)
     ∙ sym (points_append t (weights x.submeshes) (list_weights l))
 
 paired_same : (f g : ℕ → ℕ) (l : List ℕ) → ((t : ℕ) → f t ≡ g t) → paired f l ≡ paired g l

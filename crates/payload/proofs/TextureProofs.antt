@@ -1,10 +1,10 @@
 -- The theorems that specs/TextureLaws.antt names. Assumes nothing.
-use Rattle.std.proofs.Common.{◌≡◌, ℕ, ◌<◌, List, [], ◌∷◌, map, length, sym, refl, ap, ◌∙◌, arith}
+use Rattle.std.proofs.Common.{◌+◌, ◌≡◌, ℕ, ◌<◌, List, [], ◌∷◌, map, length, sym, refl, ap, ◌∙◌, arith}
 use Rattle.bits.specs.Refusals.{among}
 use Rattle.bits.specs.Verdict.{accepted, limited}
 use Rattle.bits.proofs.FieldLaws.{field_lt}
 use Rattle.payload.specs.Mesh.{Submesh, Mesh}
-use Rattle.payload.specs.MeshSpells.{SubmeshesSpell, BoxesSpell, ends, holds, skips, sum}
+use Rattle.payload.specs.MeshSpells.{submesh_bits, SubmeshesSpell, BoxesSpell, ends, holds, skips, sum}
 use Rattle.payload.specs.MeshRead.{read_meshes}
 use Rattle.payload.specs.MeshDrawing.{first_eye, point_total}
 use Rattle.payload.specs.Records.{point_sum}
@@ -41,7 +41,7 @@ words-sum l =
 proper_submeshes : (s : List ℕ) (w m p : ℕ) (l : List Submesh) → SubmeshesSpell s w m p l → Proper (weights l)
 proper_submeshes s w m p [] e = tt
 proper_submeshes s w m p (x ∷ l) e =
-    (omega (arith, field_lt s p 8, e.0.texture), e.0.some, proper_submeshes s w m _ l e.1)
+    (omega (arith, field_lt s p 8, e.0.texture), e.0.some, proper_submeshes s w m (p + submesh_bits w x) l e.1)
 
 proper_boxes : {s : List ℕ} {p : ℕ} {l : List Mesh} → BoxesSpell s p l → Proper (list_weights l)
 unfolding list_weights

@@ -5,7 +5,7 @@ use lib.Seq.{sets}
 use Rattle.bits.specs.Verdict.{Verdict, accepted, needs, declined, and_then, mapped}
 use Rattle.bits.specs.Field.{field}
 use Rattle.bits.specs.Number.{width_of}
-use Rattle.bits.specs.Header.{list_end, box, sized, header_at}
+use Rattle.bits.specs.Header.{list_end, sized, header_at}
 use Rattle.bits.proofs.VerdictLaws.{then_value, mapped_value, mapped_declined}
 use Rattle.bits.specs.Verdict.{limited}
 use Rattle.payload.specs.Mesh.{Submesh, Mesh}

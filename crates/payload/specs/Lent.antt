@@ -1,6 +1,6 @@
 -- The rule for lent buffers: what a call says that is to fill them, and what it leaves in them.
 use Rattle.std.specs.Prelude.{ℕ, ◌/◌, Bool, true, false, cond, ◌&&◌, List, [], ◌∷◌, ◌++◌, map, length, drop, nat_le}
-use Rattle.std.specs.Borrow.{Bor}
+use Rattle.std.specs.Borrow.{MutBor}
 use denote.Triple.Both.{Both}
 use Rattle.bits.specs.Verdict.{Verdict, accepted, needs, declined, mapped}
 
@@ -47,7 +47,7 @@ in_items u v = mapped (λ l. record { answer = length l / u; lists = l ∷ [] })
 
 -- a slice that is lent
 abbrev pub Lent : Type 0
-Lent = Both (Bor (List ℕ)) (Bor (List ℕ))
+Lent = Both (MutBor (List ℕ)) (MutBor (List ℕ))
 
 -- what lent slices hold at entry
 abbrev pub at_entry : List Lent → List (List ℕ)

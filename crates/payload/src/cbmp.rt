@@ -11,7 +11,7 @@ use super::words::fill_words;
 use bits::{ByteCursor, WordRead};
 
 // A padding, or the number of a refusal.
-#[derive(Drop)]
+#[derive(Clone, Copy)]
 pub enum CbmpAnswer {
     Padding(u32),
     Declined(u8),

@@ -4,7 +4,7 @@ ghost use Rattle.payload.specs.Count.{counted_says, counted, vertex_count, index
 ghost use Rattle.payload.specs.Count.{cubemap_vertex_count, cubemap_index_count};
 
 // A count, or the number of a refusal.
-#[derive(Drop)]
+#[derive(Clone, Copy)]
 pub enum Counted {
     Count(u64),
     Declined(u8),

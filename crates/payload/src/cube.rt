@@ -110,7 +110,7 @@ const CUBE_FACES: [[i8; 9]; 6] = [
 ];
 
 // What a face has along one axis of space.
-#[derive(Drop)]
+#[derive(Clone, Copy)]
 struct Axis {
     centre: f32,
     right: f32,
@@ -118,7 +118,7 @@ struct Axis {
 }
 
 // A face, and where its picture lies in the frame.
-#[derive(Drop)]
+#[derive(Clone, Copy)]
 struct Face {
     x: Axis,
     y: Axis,

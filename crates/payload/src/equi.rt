@@ -14,7 +14,7 @@ use super::words::fill_words;
 use bits::{ByteCursor, WordRead};
 
 // The four fields, each a fraction of 32 bits.
-#[derive(Drop)]
+#[derive(Clone, Copy)]
 pub struct EquiFields {
     pub t: u32,
     pub b: u32,
@@ -36,14 +36,14 @@ impl EquiFields {
 }
 
 // The fields of a payload, whatever crop they make.
-#[derive(Drop)]
+#[derive(Clone, Copy)]
 pub enum EquiRead {
     Fields(EquiFields),
     Declined(u8),
 }
 
 // A reading with its crop, or the number of a refusal.
-#[derive(Drop)]
+#[derive(Clone, Copy)]
 pub enum EquiAnswer {
     Reading(EquiFields, Bounds),
     Declined(u8),

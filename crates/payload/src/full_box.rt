@@ -4,7 +4,7 @@ ghost use Rattle.payload.specs.Payload.{full_box, full_box_says};
 
 use bits::{ByteCursor, ByteRead, Seek};
 
-#[derive(Drop)]
+#[derive(Clone, Copy)]
 pub(crate) enum FullBox {
     Body(ByteCursor),
     Declined(u8),

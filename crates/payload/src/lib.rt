@@ -1,5 +1,7 @@
 // Payloads and their drawings: crops, readers, writers, index makers, cube maps, counts and the viewer's small calls.
 // What each call answers, and what it leaves in a lent buffer, is an equation with a definition of specs/.
+#![tactic(auto)]
+
 ghost use Rattle.std.specs.Prelude.{◌≡◌, ◌+◌, ◌≤◌, [], ◌∷◌, length};
 ghost use Rattle.std.proofs.lemmas.List.Edits.{sets};
 

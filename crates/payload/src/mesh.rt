@@ -29,9 +29,9 @@ pub use write::write_mesh;
 const MESH: u32 = 0x6D65_7368;
 
 // A place in the pool.
-#[derive(Drop)]
+#[derive(Clone, Copy)]
 pub struct CoordinateNumber(pub u16);
 
 // A place among the vertices.
-#[derive(Drop)]
+#[derive(Clone, Copy)]
 pub struct VertexNumber(pub u16);

@@ -14,7 +14,7 @@ pub const MAX_FOV_DEG: f32 = 100.0;
 pub const DEFAULT_FOV_DEG: f32 = 25.76;
 
 // How a frame holds the pictures of the two eyes.
-#[derive(Drop)]
+#[derive(Clone, Copy)]
 pub enum StereoLayout {
     Mono,
     OverUnder,
@@ -51,7 +51,7 @@ impl StereoLayout {
 }
 
 // The two colours of an anaglyph frame, the left eye's first.
-#[derive(Drop)]
+#[derive(Clone, Copy)]
 pub enum AnaglyphPair {
     RedCyan,
     GreenMagenta,
@@ -71,7 +71,7 @@ impl AnaglyphPair {
 }
 
 // How much of the sphere a frame covers. A flat one stands in the room as a screen.
-#[derive(Drop)]
+#[derive(Clone, Copy)]
 pub enum Projection {
     Equirect360,
     Equirect180,
@@ -80,7 +80,7 @@ pub enum Projection {
 }
 
 // The patch of the sphere that a projection is short for, if it is one.
-#[derive(Drop)]
+#[derive(Clone, Copy)]
 pub enum Patch {
     Sphere(Bounds),
     Nothing,
@@ -128,7 +128,7 @@ impl Projection {
     }
 }
 
-#[derive(Drop)]
+#[derive(Clone, Copy)]
 pub enum Eye {
     Left,
     Right,

@@ -110,7 +110,7 @@ fn draw_expanded(
 }
 
 // Where the next mesh's coordinate numbers and words go.
-#[derive(Drop)]
+#[derive(Clone, Copy)]
 struct DrawPlace {
     numbers: usize,
     floats: usize,
@@ -202,7 +202,7 @@ fn draw_boxes(s: &[u8], numbers: &mut [u16], words: &mut [u32])
 }
 
 // What drawing answers: the list's size, or the lengths that the three buffers need, or the number of a refusal.
-#[derive(Drop)]
+#[derive(Clone, Copy)]
 pub enum MeshesAnswer {
     Drawn(MeshListSize),
     Needs {

@@ -23,7 +23,7 @@ pub(in crate::mesh) fn word_is_finite(word: u32) -> bool
 }
 
 // A word of a pool whose f32 is finite, or the number of a refusal.
-#[derive(Drop)]
+#[derive(Clone, Copy)]
 pub(in crate::mesh) enum PoolWord {
     Finite(u32),
     Declined(u8),

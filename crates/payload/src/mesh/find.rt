@@ -13,7 +13,7 @@ use bits::Run;
 
 // Where the points of a submesh stand: the body of its mesh begins and ends there in the payload, and the fields of its
 // points are that run of the body.
-#[derive(Drop)]
+#[derive(Clone, Copy)]
 pub struct PointFields {
     pub body: usize,
     pub end: usize,
@@ -21,7 +21,7 @@ pub struct PointFields {
 }
 
 // Where they stand, or the number of a refusal.
-#[derive(Drop)]
+#[derive(Clone, Copy)]
 pub enum SubmeshFound {
     At(PointFields),
     Declined(u8),

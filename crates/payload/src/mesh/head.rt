@@ -8,7 +8,7 @@ use super::submeshes::Submeshes;
 use bits::Run;
 
 // The run of its vertices, whose limit is the pool's length, and its submeshes.
-#[derive(Drop)]
+#[derive(Clone, Copy)]
 pub(in crate::mesh) struct Head {
     pub vertices: Run,
     pub submeshes: Submeshes,

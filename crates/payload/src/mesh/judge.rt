@@ -8,7 +8,7 @@ ghost use Rattle.payload.specs.InternalWriting.{row_fits, rows_all_fit, counts_f
 use super::fields::word_is_finite;
 
 // The size of the tables' box, or that they are no mesh, or that a word of the pool is not finite.
-#[derive(Drop)]
+#[derive(Clone, Copy)]
 pub(in crate::mesh) enum Judged {
     Size(usize),
     NoMesh,

@@ -16,7 +16,7 @@ use super::fields::{PoolWord, one_field, pool_word, word};
 use bits::{BoxHeader, ByteCursor, Run, RunCheck};
 
 // How much there is of a mesh list: its meshes, submeshes and points, and the lengths of its drawing's three lists.
-#[derive(Drop)]
+#[derive(Clone, Copy)]
 pub struct MeshListSize {
     pub meshes: usize,
     pub submeshes: usize,
@@ -27,14 +27,14 @@ pub struct MeshListSize {
 }
 
 // The size of a mesh list, or the number of a refusal.
-#[derive(Drop)]
+#[derive(Clone, Copy)]
 pub enum Measured {
     Size(MeshListSize),
     Declined(u8),
 }
 
 // A submesh's point count and the bit place after it, or the number of a refusal.
-#[derive(Drop)]
+#[derive(Clone, Copy)]
 enum SubmeshEnd {
     At(u32, usize),
     Declined(u8),
@@ -67,7 +67,7 @@ fn check_submesh(s: &[u8], p: usize, w: usize, m: u32) -> SubmeshEnd
 }
 
 // How many submeshes there are, and how many points they have in all, or the number of a refusal.
-#[derive(Drop)]
+#[derive(Clone, Copy)]
 enum SubmeshesSize {
     Size(u32, usize),
     Declined(u8),
@@ -113,7 +113,7 @@ fn check_submesh_list(s: &[u8], p: usize, w: usize, m: u32) -> SubmeshesSize
 }
 
 // The vertices, submeshes and points of a mesh body, or the number of a refusal.
-#[derive(Drop)]
+#[derive(Clone, Copy)]
 enum BodySize {
     Size(u32, u32, usize),
     Declined(u8),
@@ -145,7 +145,7 @@ fn check_from_vertices(s: &[u8], n: u32, m: u32) -> BodySize
 }
 
 // Whether the words of a pool are good, or the number of a refusal.
-#[derive(Drop)]
+#[derive(Clone, Copy)]
 enum PoolCheck {
     Good,
     Declined(u8),
@@ -212,7 +212,7 @@ fn check_mesh(s: &[u8]) -> BodySize
 }
 
 // What was counted of a list so far.
-#[derive(Drop)]
+#[derive(Clone, Copy)]
 struct Totals {
     meshes: usize,
     coordinates: usize,
@@ -220,7 +220,7 @@ struct Totals {
     points: usize,
 }
 
-#[derive(Drop)]
+#[derive(Clone, Copy)]
 enum Totalled {
     Totals(Totals),
     Declined(u8),
@@ -329,7 +329,7 @@ pub fn measure_meshes(payload: &[u8]) -> Measured
 }
 
 // The lengths of a mesh's four tables.
-#[derive(Drop)]
+#[derive(Clone, Copy)]
 pub struct TableLengths {
     pub pool: usize,
     pub coordinates: usize,
@@ -338,7 +338,7 @@ pub struct TableLengths {
 }
 
 // The lengths of a mesh's tables, or the number of a refusal.
-#[derive(Drop)]
+#[derive(Clone, Copy)]
 pub enum MeshMeasured {
     Lengths(TableLengths),
     Declined(u8),

@@ -7,7 +7,7 @@ use super::MESH;
 use bits::{BoxHeader, ByteCursor};
 
 // Where the next mesh's body begins and ends, or no mesh follows.
-#[derive(Drop)]
+#[derive(Clone, Copy)]
 pub(in crate::mesh) enum NextMesh {
     Body(usize, usize),
     End,

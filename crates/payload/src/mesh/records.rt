@@ -16,7 +16,7 @@ use super::submeshes::{Submeshes, next_submesh};
 use bits::{BoxHeader, ByteCursor};
 
 // A submesh's record: its eye, its texture and mode, its first point among all, and how many points it has.
-#[derive(Drop)]
+#[derive(Clone, Copy)]
 pub struct Record {
     pub eye: u32,
     pub texture: u32,
@@ -37,7 +37,7 @@ fn put_record(out: &mut [u32], at: usize, r: Record)
 }
 
 // The next record's eye and first point, and where it goes.
-#[derive(Drop)]
+#[derive(Clone, Copy)]
 struct RecordPlace {
     eye: u32,
     first: u32,
@@ -166,7 +166,7 @@ pub(in crate::mesh) fn record_boxes(s: &[u8], meshes: usize, records: &mut [u32]
 }
 
 // What the records alone answer: the list's counts, or the length that the buffer needs, or the number of a refusal.
-#[derive(Drop)]
+#[derive(Clone, Copy)]
 pub enum RecordsAnswer {
     Counts {
         meshes: usize,

@@ -7,7 +7,7 @@ use super::fields::one_field;
 use bits::Run;
 
 // Some submeshes: where the first one stands, among how many vertices their points are, and how many there are.
-#[derive(Drop)]
+#[derive(Clone, Copy)]
 pub(in crate::mesh) struct Submeshes {
     pub bit: usize,
     pub vertices: u16,
@@ -15,7 +15,7 @@ pub(in crate::mesh) struct Submeshes {
 }
 
 // The first of some submeshes: its texture and mode, the run of its points, and the submeshes after it.
-#[derive(Drop)]
+#[derive(Clone, Copy)]
 pub(in crate::mesh) struct NextSubmesh {
     pub texture: u32,
     pub mode: u32,

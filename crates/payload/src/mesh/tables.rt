@@ -115,7 +115,7 @@ fn fill_tables(
 
 // What reading a mesh body answers: the used lengths of the four tables, or the lengths that they need, or the number
 // of a refusal.
-#[derive(Drop)]
+#[derive(Clone, Copy)]
 pub enum TablesAnswer {
     Tables(TableLengths),
     Needs(TableLengths),

@@ -16,7 +16,7 @@ use crate::answers::Filled;
 
 // The byte where the bits go that wait, and how many they are. They are the low bits of `held`; what stands above them
 // is out already.
-#[derive(Drop)]
+#[derive(Clone, Copy)]
 struct BitWriter {
     at: usize,
     held: u64,
