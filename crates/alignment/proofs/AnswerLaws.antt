@@ -21,7 +21,7 @@ use Rattle.payload.proofs.LentLaws.{Keeps, refused, too_short, all_stored}
 use Rattle.payload.proofs.StepLaws.{was_read}
 use Rattle.payload.proofs.RangeLaws.{width_small}
 use Rattle.payload.proofs.StandingProofs.{standing_laws}
-use Rattle.alignment.specs.Walk.{start, walk, walk_of}
+use Rattle.alignment.specs.Walk.{start, walk_of}
 use Rattle.alignment.specs.LookUp.{farthest, vertex_at, handed_out_of, looked_up_in, looked_up}
 use Rattle.alignment.specs.Internal.{WalkRoom, number_after, PointsOf}
 use Rattle.alignment.specs.declared.walk.Walk.{Walk}

@@ -9,7 +9,7 @@ use bits::Run;
 use payload::SubmeshFound;
 
 // How many fields were walked, or the length that the buffer needs, or the number of a refusal.
-#[derive(Drop)]
+#[derive(Clone, Copy)]
 pub enum LookUp {
     Walked(u32),
     Needs(usize),

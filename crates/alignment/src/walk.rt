@@ -13,7 +13,7 @@ use super::questions::{answer_point, chain_questions};
 use bits::{BitCursor, FieldRead, Run, Running};
 
 // The bit place, the running number, and how many fields were taken.
-#[derive(Drop)]
+#[derive(Clone, Copy)]
 pub(crate) struct Walk {
     pub bit: usize,
     pub number: u16,

@@ -2,7 +2,7 @@
 use Prim.Native.Nat.{ℕ, ◌+◌, ◌*◌, ◌%◌, ◌≤◌, ◌<◌}
 use mathlib.Core.Path.{◌≡◌, refl, sym, ap, ◌∙◌}
 use mathlib.Core.List.{List, [], ◌∷◌}
-use mathlib.Core.Bool.{Bool, true, false, ◌&&◌, and_false}
+use mathlib.Core.Bool.{Bool, true, false, ◌&&◌, and-false}
 use native.Mathlib.Nat.{zero-add}
 use native.Mathlib.Omega.{arith}
 use lib.Dec.{eqb, leb}
@@ -33,7 +33,7 @@ module _ (points : ℕ) (r : Record) (l : List Record) where
   after_many : 4294967295 < points + r.points → usable_after points (r ∷ l) ≡ false
   after_many h =
       let f : leb (points + (r.points + point_sum l)) 4294967295 ≡ false = lt-leb (points + (r.points + point_sum l)) 4294967295 (omega arith) in
-      rw f (and_false (all_usable (r ∷ l)))
+      rw f (and-false (all_usable (r ∷ l)))
 
   after_on : record_usable r ≡ true → usable_after points (r ∷ l) ≡ usable_after (points + r.points) l
   unfolding all_usable

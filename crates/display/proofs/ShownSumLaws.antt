@@ -1,12 +1,12 @@
 -- The points of a list of records summed from its front, and what the sum tells of a list that is handed in. Assumes
 -- nothing.
 use Prim.Native.Nat.{ℕ, ◌+◌, ◌≤◌, ◌<◌}
-use mathlib.Core.Path.{◌≡◌, refl, sym, ap, ◌∙◌}
-use mathlib.Core.List.{List, map}
-use mathlib.Core.Bool.{Bool, true, false, cond, ◌&&◌, and_false}
+use mathlib.Core.Path.{◌≡◌, refl, sym, ap}
+use mathlib.Core.List.{List}
+use mathlib.Core.Bool.{Bool, true, false, cond, ◌&&◌, and-false}
 use native.Mathlib.Omega.{arith}
 use lib.Dec.{eqb}
-use lib.ListN.{length, get_or, drop, length-map}
+use lib.ListN.{length, get_or, drop}
 use lib.Seq.{length-take-le}
 use borrow.Author.Tests.{le-leb, lt-leb, leb-true, eqb-true, eq-eqb}
 use Rattle.bits.specs.Refusals.{among}
@@ -31,7 +31,7 @@ module _ (words : List ℕ) (t : ℕ) (l : List ℕ) (i : ℕ) where
     -- no record
     pub summed_foreign : is_record words (get_or l i 0) ≡ false → summed_from words t (drop i l) ≡ declined 19
     unfolding summed_from all_of
-    summed_foreign e = rw (rest-cons l i h, e, and_false)
+    summed_foreign e = rw (rest-cons l i h, e, and-false)
 
     -- twice
     pub summed_twice : among (get_or l i 0) (drop (i + 1) l) ≡ true → summed_from words t (drop i l) ≡ declined 19
@@ -101,7 +101,3 @@ module _ (words : List ℕ) (s : Shown) where
   -- the shown numbers are as many as it says
   pub shown_length : UsableShown words s → length s.entries ≡ 64 → length (shown_numbers s) ≡ s.count
   shown_length u long = let few = u.few in length-take-le s.count s.entries (omega arith)
-
--- how owning a struct tells its array's length
-pub entries : (l : List ℕ) → length (map (λ (v : ℕ). v) l) ≡ 64 → length l ≡ 64
-entries l e = sym (length-map l (λ (v : ℕ). v)) ∙ e

@@ -1,6 +1,6 @@
 -- The theorems about the turns, a field for each sentence, and which numbers are shared out. The proofs are in
 -- proofs/TurnProofs.antt and proofs/SharingLaws.antt.
-use Rattle.std.specs.Prelude.{ℕ, ◌+◌, ◌/◌, min, ◌≤◌, ◌<◌, ◌≡◌, List, [], ◌∷◌, length, get_or, replicate}
+use Rattle.std.specs.Prelude.{ℕ, ◌+◌, ◌/◌, min, ◌≤◌, ◌<◌, ◌≡◌, List, length, get_or, replicate}
 use Rattle.bits.specs.Verdict.{accepted, declined}
 use Rattle.payload.specs.Firsts.{Below}
 use Rattle.payload.specs.Lent.{in_items, answer_for}

@@ -1,5 +1,7 @@
 // What a display makes of the records of a drawing, and how it shares out a frame. Any words may be handed in: each
 // call judges what it is handed before it changes anything, so a refusal leaves all as it was.
+#![tactic(auto)]
+
 ghost use Rattle.std.specs.Prelude.{◌≡◌, ◌+◌, ◌≤◌, length};
 ghost use Rattle.display.specs.Internal.{record_at};
 

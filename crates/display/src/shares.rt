@@ -45,7 +45,7 @@ fn lowest(wishes: &[u32], level: u32) -> u32
 }
 
 // After whole turns every window has its wish up to the height, and so many points are left for the last turn.
-#[derive(Drop)]
+#[derive(Clone, Copy)]
 struct Level {
     height: u32,
     left: u32,

@@ -12,35 +12,35 @@ ghost use Rattle.display.specs.InternalShown.{summed_from, sum_says, judged, jud
 use super::record_at;
 
 // The numbers stand at the front of the array; what stands behind them is not looked at, and stays.
-#[derive(Drop)]
+#[derive(Clone, Copy)]
 pub struct Shown {
     pub entries: [u32; 64],
     pub count: u32,
     pub total: u64,
 }
 
-#[derive(Drop)]
+#[derive(Clone, Copy)]
 pub enum Change {
     Changed,
     Declined(u8),
 }
 
 // What a call says, and the list that it hands back.
-#[derive(Drop)]
+#[derive(Clone, Copy)]
 pub struct ShownAnswer {
     pub answer: Change,
     pub shown: Shown,
 }
 
 // The points of a list together, or that the list is refused with 19.
-#[derive(Drop)]
+#[derive(Clone, Copy)]
 enum Sum {
     Points(u64),
     Unusable,
 }
 
 // The place of a number in the list, the count where it is not shown, or that list or number are refused with 19.
-#[derive(Drop)]
+#[derive(Clone, Copy)]
 enum Judged {
     Place(usize),
     Unusable,

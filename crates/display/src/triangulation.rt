@@ -14,7 +14,7 @@ use super::record_at;
 use payload::{Filled, Record};
 
 // How many numbers the triangles of all records take, or that the records are refused with 15.
-#[derive(Drop)]
+#[derive(Clone, Copy)]
 enum Measured {
     Numbers(usize),
     Unusable,

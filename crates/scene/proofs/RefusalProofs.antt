@@ -34,6 +34,7 @@ module _ {ks : List ℕ} where
   grid_refuses : (name : Named) (v w : Verdict (List ℕ)) → Refuses ks (both_lengths v w) → Refuses ks (grid_plan name v w)
   grid_refuses name (accepted l) w r = remade _ _ w r
   grid_refuses name (declined j) w (refuses k h) = refuses k h
+  grid_refuses name (Rattle.bits.specs.Verdict.needs _) w r = elim r [ ]
 
   wider : {A : Type 0} {js : List ℕ} {v : Verdict A} → ((k : ℕ) → among k ks ≡ true → among k js ≡ true) → Refuses ks v
       → Refuses js v
