@@ -1,5 +1,5 @@
 -- A list of shown submeshes in a lent buffer: what the words and the buffer are after a call. Assumes nothing.
-use Rattle.std.proofs.Common.{◌≡◌, ℕ, ◌+◌, ◌<◌, ◌≤◌, List, [], ◌∷◌, ◌++◌, length, take, drop, replicate, sym, refl, ap, ◌∙◌, append-nil, zero-add, arith, length-append, length-drop, length-take-le, take_all, le-leb}
+use Rattle.std.proofs.Common.{◌≡◌, ℕ, ◌<◌, ◌≤◌, List, [], ◌∷◌, ◌++◌, length, take, drop, replicate, sym, refl, ap, ◌∙◌, append-nil, zero-add, arith, length-append, length-drop, length-take-le, take_all, le-leb}
 use lib.Seq.{sets, sets-eq}
 use borrow.Author.Tests.{lt-leb}
 use Rattle.bits.specs.Verdict.{Verdict, accepted, needs, declined, mapped}

@@ -19,8 +19,7 @@ fn of_look_up(x: LookUp) -> Reply
     }
 }
 
-#[unsafe(no_mangle)]
-pub extern "C" fn capi_look_up(
+pub fn capi_look_up(
     payload: &[u8],
     number: u32,
     asked: &[u32],

@@ -49,8 +49,7 @@ fn of_header(x: BoxHeader) -> Reply
     }
 }
 
-#[unsafe(no_mangle)]
-pub extern "C" fn capi_byte_new(words: &mut [u64]) -> i64
+pub fn capi_byte_new(words: &mut [u64]) -> i64
     ensures answer { result ≡ code_of (accepted (one 0)) }
     ensures words { words.new ≡ words_after words.old (accepted (one 0)) }
 {
@@ -58,16 +57,14 @@ pub extern "C" fn capi_byte_new(words: &mut [u64]) -> i64
     hand_out(words, accept(&[c.at as u64]))
 }
 
-#[unsafe(no_mangle)]
-pub extern "C" fn capi_position(at: usize, words: &mut [u64]) -> i64
+pub fn capi_position(at: usize, words: &mut [u64]) -> i64
     ensures answer { result ≡ code_of (accepted (one at)) }
     ensures words { words.new ≡ words_after words.old (accepted (one at)) }
 {
     hand_out(words, accept(&[ByteCursor { at }.position() as u64]))
 }
 
-#[unsafe(no_mangle)]
-pub extern "C" fn capi_remaining(s: &[u8], at: usize, words: &mut [u64]) -> i64
+pub fn capi_remaining(s: &[u8], at: usize, words: &mut [u64]) -> i64
     ensures answer { result ≡ code_of (accepted (one (length s.now - at))) }
     ensures words { words.new
         ≡ words_after words.old (accepted (one (length s.now - at))) }
@@ -75,8 +72,7 @@ pub extern "C" fn capi_remaining(s: &[u8], at: usize, words: &mut [u64]) -> i64
     hand_out(words, accept(&[ByteCursor { at }.remaining(s) as u64]))
 }
 
-#[unsafe(no_mangle)]
-pub extern "C" fn capi_seek(s: &[u8], at: usize, to: usize, words: &mut [u64]) -> i64
+pub fn capi_seek(s: &[u8], at: usize, to: usize, words: &mut [u64]) -> i64
     ensures answer { result ≡ code_of (mapped one (place_in s.now to)) }
     ensures words { words.new
         ≡ words_after words.old (mapped one (place_in s.now to)) }
@@ -84,8 +80,7 @@ pub extern "C" fn capi_seek(s: &[u8], at: usize, to: usize, words: &mut [u64]) -
     hand_out(words, of_seek(ByteCursor { at }.seek(s, to)))
 }
 
-#[unsafe(no_mangle)]
-pub extern "C" fn capi_skip(s: &[u8], at: usize, n: usize, words: &mut [u64]) -> i64
+pub fn capi_skip(s: &[u8], at: usize, n: usize, words: &mut [u64]) -> i64
     ensures answer { result ≡ code_of (mapped one (place_in s.now (at + n))) }
     ensures words { words.new
         ≡ words_after words.old (mapped one (place_in s.now (at + n))) }
@@ -93,8 +88,7 @@ pub extern "C" fn capi_skip(s: &[u8], at: usize, n: usize, words: &mut [u64]) ->
     hand_out(words, of_seek(ByteCursor { at }.skip(s, n)))
 }
 
-#[unsafe(no_mangle)]
-pub extern "C" fn capi_u8(s: &[u8], at: usize, words: &mut [u64]) -> i64
+pub fn capi_u8(s: &[u8], at: usize, words: &mut [u64]) -> i64
     ensures answer { result ≡ code_of (mapped two (number_at 1 s.now at)) }
     ensures words { words.new
         ≡ words_after words.old (mapped two (number_at 1 s.now at)) }
@@ -102,8 +96,7 @@ pub extern "C" fn capi_u8(s: &[u8], at: usize, words: &mut [u64]) -> i64
     hand_out(words, of_byte(ByteCursor { at }.u8(s)))
 }
 
-#[unsafe(no_mangle)]
-pub extern "C" fn capi_u32(s: &[u8], at: usize, words: &mut [u64]) -> i64
+pub fn capi_u32(s: &[u8], at: usize, words: &mut [u64]) -> i64
     ensures answer { result ≡ code_of (mapped two (number_at 4 s.now at)) }
     ensures words { words.new
         ≡ words_after words.old (mapped two (number_at 4 s.now at)) }
@@ -111,8 +104,7 @@ pub extern "C" fn capi_u32(s: &[u8], at: usize, words: &mut [u64]) -> i64
     hand_out(words, of_word(ByteCursor { at }.u32(s)))
 }
 
-#[unsafe(no_mangle)]
-pub extern "C" fn capi_header(s: &[u8], at: usize, words: &mut [u64]) -> i64
+pub fn capi_header(s: &[u8], at: usize, words: &mut [u64]) -> i64
     ensures answer { result ≡ code_of (and_then (header_at s.now at) placed) }
     ensures words { words.new
         ≡ words_after words.old (and_then (header_at s.now at) placed) }
@@ -120,8 +112,7 @@ pub extern "C" fn capi_header(s: &[u8], at: usize, words: &mut [u64]) -> i64
     hand_out(words, of_header(bits::box_header(s, ByteCursor { at })))
 }
 
-#[unsafe(no_mangle)]
-pub extern "C" fn capi_word_of(a: u8, b: u8, c: u8, d: u8) -> i64
+pub fn capi_word_of(a: u8, b: u8, c: u8, d: u8) -> i64
     ensures { result ≡ pos (a * 2 ^ 24 + b * 2 ^ 16 + c * 2 ^ 8 + d) }
 {
     bits::word_of(a, b, c, d) as i64

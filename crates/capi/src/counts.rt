@@ -17,8 +17,7 @@ fn of_count(x: Counted) -> Reply
     }
 }
 
-#[unsafe(no_mangle)]
-pub extern "C" fn capi_vertex_count(rings: u32, sectors: u32, words: &mut [u64]) -> i64
+pub fn capi_vertex_count(rings: u32, sectors: u32, words: &mut [u64]) -> i64
     ensures answer { result ≡ code_of (mapped one (vertex_count rings sectors)) }
     ensures words { words.new
         ≡ words_after words.old (mapped one (vertex_count rings sectors)) }
@@ -26,8 +25,7 @@ pub extern "C" fn capi_vertex_count(rings: u32, sectors: u32, words: &mut [u64])
     hand_out(words, of_count(payload::vertex_count(rings, sectors)))
 }
 
-#[unsafe(no_mangle)]
-pub extern "C" fn capi_index_count(rings: u32, sectors: u32, words: &mut [u64]) -> i64
+pub fn capi_index_count(rings: u32, sectors: u32, words: &mut [u64]) -> i64
     ensures answer { result ≡ code_of (mapped one (index_count rings sectors)) }
     ensures words { words.new
         ≡ words_after words.old (mapped one (index_count rings sectors)) }
@@ -35,8 +33,7 @@ pub extern "C" fn capi_index_count(rings: u32, sectors: u32, words: &mut [u64]) 
     hand_out(words, of_count(payload::index_count(rings, sectors)))
 }
 
-#[unsafe(no_mangle)]
-pub extern "C" fn capi_cubemap_vertex_count(cells: u32, words: &mut [u64]) -> i64
+pub fn capi_cubemap_vertex_count(cells: u32, words: &mut [u64]) -> i64
     ensures answer { result ≡ code_of (mapped one (cubemap_vertex_count cells)) }
     ensures words { words.new
         ≡ words_after words.old (mapped one (cubemap_vertex_count cells)) }
@@ -44,8 +41,7 @@ pub extern "C" fn capi_cubemap_vertex_count(cells: u32, words: &mut [u64]) -> i6
     hand_out(words, of_count(payload::cubemap_vertex_count(cells)))
 }
 
-#[unsafe(no_mangle)]
-pub extern "C" fn capi_cubemap_index_count(cells: u32, words: &mut [u64]) -> i64
+pub fn capi_cubemap_index_count(cells: u32, words: &mut [u64]) -> i64
     ensures answer { result ≡ code_of (mapped one (cubemap_index_count cells)) }
     ensures words { words.new
         ≡ words_after words.old (mapped one (cubemap_index_count cells)) }

@@ -12,8 +12,7 @@ ghost use Rattle.capi.specs.Values.{sides, side_words, fields, reading};
 use super::{Reply, accept, decline, flag, hand_out, of_filled, side_words};
 use payload::{Bounds, CbmpAnswer, EquiAnswer, EquiFields};
 
-#[unsafe(no_mangle)]
-pub extern "C" fn capi_is_usable(top: f32, bottom: f32, left: f32, right: f32) -> i64
+pub fn capi_is_usable(top: f32, bottom: f32, left: f32, right: f32) -> i64
     ensures { result ≡ truth (usable (sides top bottom left right)) }
 {
     let crop = Bounds {
@@ -25,8 +24,7 @@ pub extern "C" fn capi_is_usable(top: f32, bottom: f32, left: f32, right: f32) -
     flag(crop.is_usable())
 }
 
-#[unsafe(no_mangle)]
-pub extern "C" fn capi_equi_crop(t: u32, b: u32, l: u32, r: u32, words: &mut [u64]) -> i64
+pub fn capi_equi_crop(t: u32, b: u32, l: u32, r: u32, words: &mut [u64]) -> i64
     ensures answer { result ≡ code_of (accepted (side_words (crop_of (fields t b l r)))) }
     ensures words { words.new
         ≡ words_after words.old (accepted (side_words (crop_of (fields t b l r)))) }
@@ -49,8 +47,7 @@ fn of_equi(x: EquiAnswer) -> Reply
     }
 }
 
-#[unsafe(no_mangle)]
-pub extern "C" fn capi_parse_equi(payload: &[u8], words: &mut [u64]) -> i64
+pub fn capi_parse_equi(payload: &[u8], words: &mut [u64]) -> i64
     ensures answer { result ≡ code_of (mapped reading
         (limited payload.now (mapped with_crop (equi_read payload.now)))) }
     ensures words { words.new ≡ words_after words.old
@@ -59,15 +56,7 @@ pub extern "C" fn capi_parse_equi(payload: &[u8], words: &mut [u64]) -> i64
     hand_out(words, of_equi(payload::parse_equi(payload)))
 }
 
-#[unsafe(no_mangle)]
-pub extern "C" fn capi_write_equi(
-    t: u32,
-    b: u32,
-    l: u32,
-    r: u32,
-    out: &mut [u8],
-    words: &mut [u64],
-) -> i64
+pub fn capi_write_equi(t: u32, b: u32, l: u32, r: u32, out: &mut [u8], words: &mut [u64]) -> i64
     ensures answer { result ≡ code_of (mapped one
         (answer_for (in_items 1 (equi_written (fields t b l r))) (at_entry (out ∷ [])))) }
     ensures words { words.new ≡ words_after words.old (mapped one
@@ -90,8 +79,7 @@ fn of_cbmp(x: CbmpAnswer) -> Reply
     }
 }
 
-#[unsafe(no_mangle)]
-pub extern "C" fn capi_parse_cbmp(payload: &[u8], words: &mut [u64]) -> i64
+pub fn capi_parse_cbmp(payload: &[u8], words: &mut [u64]) -> i64
     ensures answer { result
         ≡ code_of (mapped one (limited payload.now (cbmp_read payload.now))) }
     ensures words { words.new
@@ -101,8 +89,7 @@ pub extern "C" fn capi_parse_cbmp(payload: &[u8], words: &mut [u64]) -> i64
     hand_out(words, of_cbmp(payload::parse_cbmp(payload)))
 }
 
-#[unsafe(no_mangle)]
-pub extern "C" fn capi_write_cbmp(padding: u32, out: &mut [u8], words: &mut [u64]) -> i64
+pub fn capi_write_cbmp(padding: u32, out: &mut [u8], words: &mut [u64]) -> i64
     ensures answer { result ≡ code_of (mapped one
         (answer_for (in_items 1 (cbmp_written padding)) (at_entry (out ∷ [])))) }
     ensures words { words.new ≡ words_after words.old (mapped one

@@ -30,8 +30,7 @@ fn of_two(x: TwoRead) -> Reply
     }
 }
 
-#[unsafe(no_mangle)]
-pub extern "C" fn capi_bit_new(byte_offset: usize, words: &mut [u64]) -> i64
+pub fn capi_bit_new(byte_offset: usize, words: &mut [u64]) -> i64
     ensures answer { result ≡ code_of (accepted (one (capped (8 * byte_offset)))) }
     ensures words { words.new
         ≡ words_after words.old (accepted (one (capped (8 * byte_offset)))) }
@@ -40,8 +39,7 @@ pub extern "C" fn capi_bit_new(byte_offset: usize, words: &mut [u64]) -> i64
     hand_out(words, accept(&[c.bit as u64]))
 }
 
-#[unsafe(no_mangle)]
-pub extern "C" fn capi_align(bit: usize, words: &mut [u64]) -> i64
+pub fn capi_align(bit: usize, words: &mut [u64]) -> i64
     ensures answer { result ≡ code_of (accepted (one (capped (8 * ((bit + 7) / 8))))) }
     ensures words { words.new
         ≡ words_after words.old (accepted (one (capped (8 * ((bit + 7) / 8))))) }
@@ -50,8 +48,7 @@ pub extern "C" fn capi_align(bit: usize, words: &mut [u64]) -> i64
     hand_out(words, accept(&[c.bit as u64]))
 }
 
-#[unsafe(no_mangle)]
-pub extern "C" fn capi_read(s: &[u8], bit: usize, width: u32, words: &mut [u64]) -> i64
+pub fn capi_read(s: &[u8], bit: usize, width: u32, words: &mut [u64]) -> i64
     ensures answer { result ≡ code_of (mapped two (field_at s.now bit width)) }
     ensures words { words.new
         ≡ words_after words.old (mapped two (field_at s.now bit width)) }
@@ -59,8 +56,7 @@ pub extern "C" fn capi_read(s: &[u8], bit: usize, width: u32, words: &mut [u64])
     hand_out(words, of_field(BitCursor { bit }.read(s, width)))
 }
 
-#[unsafe(no_mangle)]
-pub extern "C" fn capi_read_two(s: &[u8], bit: usize, width: u32, words: &mut [u64]) -> i64
+pub fn capi_read_two(s: &[u8], bit: usize, width: u32, words: &mut [u64]) -> i64
     ensures answer { result ≡ code_of (mapped three (two_at s.now bit width)) }
     ensures words { words.new
         ≡ words_after words.old (mapped three (two_at s.now bit width)) }
@@ -94,8 +90,7 @@ fn sum_fields(s: &[u8], width: u32, count: u64) -> Reply
     accept(&[sum])
 }
 
-#[unsafe(no_mangle)]
-pub extern "C" fn capi_sum_fields(s: &[u8], width: u32, count: u64, words: &mut [u64]) -> i64
+pub fn capi_sum_fields(s: &[u8], width: u32, count: u64, words: &mut [u64]) -> i64
     ensures answer { result ≡ code_of (mapped wrapped (total_of s.now width count)) }
     ensures words { words.new
         ≡ words_after words.old (mapped wrapped (total_of s.now width count)) }

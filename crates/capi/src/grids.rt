@@ -24,13 +24,7 @@ fn of_lengths(x: GridLengths) -> Reply
     }
 }
 
-#[unsafe(no_mangle)]
-pub extern "C" fn capi_sphere_indices(
-    rings: u32,
-    sectors: u32,
-    out: &mut [u16],
-    words: &mut [u64],
-) -> i64
+pub fn capi_sphere_indices(rings: u32, sectors: u32, out: &mut [u16], words: &mut [u64]) -> i64
     ensures answer { result ≡ code_of (mapped one
         (answer_for (in_items 1 (sphere_numbers rings sectors full)) (at_entry (out ∷ [])))) }
     ensures words { words.new ≡ words_after words.old (mapped one
@@ -44,8 +38,7 @@ pub extern "C" fn capi_sphere_indices(
     )
 }
 
-#[unsafe(no_mangle)]
-pub extern "C" fn capi_sphere_indices_bounded(
+pub fn capi_sphere_indices_bounded(
     rings: u32,
     sectors: u32,
     top: f32,
@@ -74,13 +67,7 @@ pub extern "C" fn capi_sphere_indices_bounded(
     )
 }
 
-#[unsafe(no_mangle)]
-pub extern "C" fn capi_sphere_uvs(
-    rings: u32,
-    sectors: u32,
-    out: &mut [u32],
-    words: &mut [u64],
-) -> i64
+pub fn capi_sphere_uvs(rings: u32, sectors: u32, out: &mut [u32], words: &mut [u64]) -> i64
     ensures answer { result ≡ code_of (mapped one
         (answer_for (in_items 2 (sphere_uvs rings sectors)) (at_entry (out ∷ [])))) }
     ensures words { words.new ≡ words_after words.old (mapped one
@@ -91,8 +78,7 @@ pub extern "C" fn capi_sphere_uvs(
     hand_out(words, of_filled(payload::sphere_uvs(rings, sectors, out)))
 }
 
-#[unsafe(no_mangle)]
-pub extern "C" fn capi_cubemap_indices(cells: u32, out: &mut [u16], words: &mut [u64]) -> i64
+pub fn capi_cubemap_indices(cells: u32, out: &mut [u16], words: &mut [u64]) -> i64
     ensures answer { result ≡ code_of (mapped one
         (answer_for (in_items 1 (cube_numbers cells)) (at_entry (out ∷ [])))) }
     ensures words { words.new ≡ words_after words.old (mapped one
@@ -103,8 +89,7 @@ pub extern "C" fn capi_cubemap_indices(cells: u32, out: &mut [u16], words: &mut 
     hand_out(words, of_filled(payload::cubemap_indices(cells, out)))
 }
 
-#[unsafe(no_mangle)]
-pub extern "C" fn capi_cubemap_mesh(
+pub fn capi_cubemap_mesh(
     cells: u32,
     radius: f32,
     padding: f32,
@@ -124,8 +109,7 @@ pub extern "C" fn capi_cubemap_mesh(
     )
 }
 
-#[unsafe(no_mangle)]
-pub extern "C" fn capi_sphere_lengths(
+pub fn capi_sphere_lengths(
     rings: u32,
     sectors: u32,
     top: f32,
@@ -151,13 +135,7 @@ pub extern "C" fn capi_sphere_lengths(
     )
 }
 
-#[unsafe(no_mangle)]
-pub extern "C" fn capi_cubemap_lengths(
-    cells: u32,
-    radius: f32,
-    padding: f32,
-    words: &mut [u64],
-) -> i64
+pub fn capi_cubemap_lengths(cells: u32, radius: f32, padding: f32, words: &mut [u64]) -> i64
     ensures answer { result ≡ code_of (mapped two
         (both_lengths (cube_numbers cells) (cube_floats cells radius padding))) }
     ensures words { words.new ≡ words_after words.old (mapped two
@@ -169,8 +147,7 @@ pub extern "C" fn capi_cubemap_lengths(
     )
 }
 
-#[unsafe(no_mangle)]
-pub extern "C" fn capi_padding_share(padding: u32, face: u32) -> i64
+pub fn capi_padding_share(padding: u32, face: u32) -> i64
     ensures { result ≡ pos (bits_of (ratio padding face)) }
 {
     bits::float_bits(payload::padding_share(padding, face)) as i64

@@ -1,5 +1,5 @@
-// The C interface: every public call of `bits`, `payload`, `scene`, `display` and `alignment` as a C function on
-// numbers and slices.
+// The C interface: every public call of `bits`, `payload`, `scene`, `display` and `alignment` as a function on numbers and
+// slices. `capi_c` makes C functions of them, and a Rattle crate can call them here.
 //
 // A slice crosses as a pointer and the count of its items. A float in a buffer, among the words or as an answer is its
 // bits. A call answers an i64. One that is lent a slice of words answers
@@ -10,6 +10,8 @@
 // itself, 1 or 0 for yes or no, and -k for refusal k; `capi_zigzag`, which refuses nothing, may answer below 0.
 // Each contract is an equation with the definitions that the call's own contract cites, put into words by
 // specs/Answer.antt, Values.antt, ShownLists.antt and Scene.antt.
+#![tactic(auto)]
+
 ghost use Rattle.std.specs.Prelude.{◌≡◌, ◌≤◌, length};
 ghost use Rattle.bits.specs.Verdict.{accepted, needs, declined, mapped};
 ghost use Rattle.bits.specs.Float.{bits_of};
@@ -37,7 +39,7 @@ pub mod shown;
 pub mod view;
 
 // What a call answered: the i64, and the words that go with it.
-#[derive(Drop)]
+#[derive(Clone, Copy)]
 struct Reply {
     code: i64,
     words: [u64; 8],

@@ -114,8 +114,7 @@ fn of_tables(x: TablesAnswer) -> Reply
     }
 }
 
-#[unsafe(no_mangle)]
-pub extern "C" fn capi_measure_meshes(payload: &[u8], words: &mut [u64]) -> i64
+pub fn capi_measure_meshes(payload: &[u8], words: &mut [u64]) -> i64
     ensures answer { result ≡ code_of (mapped size_words
         (limited payload.now (mapped list_size (read_meshes payload.now)))) }
     ensures words { words.new ≡ words_after words.old
@@ -124,8 +123,7 @@ pub extern "C" fn capi_measure_meshes(payload: &[u8], words: &mut [u64]) -> i64
     hand_out(words, of_measured(payload::measure_meshes(payload)))
 }
 
-#[unsafe(no_mangle)]
-pub extern "C" fn capi_find_submesh(payload: &[u8], number: u32, words: &mut [u64]) -> i64
+pub fn capi_find_submesh(payload: &[u8], number: u32, words: &mut [u64]) -> i64
     ensures answer { result ≡ code_of (mapped place_words (place_found payload.now number)) }
     ensures words { words.new
         ≡ words_after words.old (mapped place_words (place_found payload.now number)) }
@@ -133,8 +131,7 @@ pub extern "C" fn capi_find_submesh(payload: &[u8], number: u32, words: &mut [u6
     hand_out(words, of_found(payload::find_submesh(payload, number)))
 }
 
-#[unsafe(no_mangle)]
-pub extern "C" fn capi_mesh_records(payload: &[u8], records: &mut [u32], words: &mut [u64]) -> i64
+pub fn capi_mesh_records(payload: &[u8], records: &mut [u32], words: &mut [u64]) -> i64
     ensures answer { result ≡ code_of (mapped three
         (answer_for (records_plan payload.now) (at_entry (records ∷ [])))) }
     ensures words { words.new ≡ words_after words.old (mapped three
@@ -145,8 +142,7 @@ pub extern "C" fn capi_mesh_records(payload: &[u8], records: &mut [u32], words: 
     hand_out(words, of_records(payload::mesh_records(payload, records)))
 }
 
-#[unsafe(no_mangle)]
-pub extern "C" fn capi_texture_points(payload: &[u8], out: &mut [u32], words: &mut [u64]) -> i64
+pub fn capi_texture_points(payload: &[u8], out: &mut [u32], words: &mut [u64]) -> i64
     ensures answer { result ≡ code_of (mapped one
         (answer_for (in_items 2 (textures_found payload.now)) (at_entry (out ∷ [])))) }
     ensures words { words.new ≡ words_after words.old (mapped one
@@ -157,8 +153,7 @@ pub extern "C" fn capi_texture_points(payload: &[u8], out: &mut [u32], words: &m
     hand_out(words, of_filled(payload::texture_points(payload, out)))
 }
 
-#[unsafe(no_mangle)]
-pub extern "C" fn capi_parse_meshes(
+pub fn capi_parse_meshes(
     payload: &[u8],
     numbers: &mut [u16],
     floats: &mut [u32],
@@ -178,8 +173,7 @@ pub extern "C" fn capi_parse_meshes(
     )
 }
 
-#[unsafe(no_mangle)]
-pub extern "C" fn capi_measure_mesh(body: &[u8], words: &mut [u64]) -> i64
+pub fn capi_measure_mesh(body: &[u8], words: &mut [u64]) -> i64
     ensures answer { result ≡ code_of (mapped table_words (mapped table_lengths (body_read body.now))) }
     ensures words { words.new ≡ words_after words.old
         (mapped table_words (mapped table_lengths (body_read body.now))) }
@@ -187,8 +181,7 @@ pub extern "C" fn capi_measure_mesh(body: &[u8], words: &mut [u64]) -> i64
     hand_out(words, of_mesh_measured(payload::measure_mesh(body)))
 }
 
-#[unsafe(no_mangle)]
-pub extern "C" fn capi_parse_mesh(
+pub fn capi_parse_mesh(
     body: &[u8],
     pool: &mut [u32],
     coordinates: &mut [u16],
@@ -210,8 +203,7 @@ pub extern "C" fn capi_parse_mesh(
     )
 }
 
-#[unsafe(no_mangle)]
-pub extern "C" fn capi_write_mesh(
+pub fn capi_write_mesh(
     pool: &[u32],
     coordinates: &[u16],
     submeshes: &[u32],

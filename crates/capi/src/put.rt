@@ -18,8 +18,7 @@ fn of_put(x: Put) -> Reply
     }
 }
 
-#[unsafe(no_mangle)]
-pub extern "C" fn capi_put_word(out: &mut [u8], at: usize, x: u32, words: &mut [u64]) -> i64
+pub fn capi_put_word(out: &mut [u8], at: usize, x: u32, words: &mut [u64]) -> i64
     ensures answer { result ≡ code_of (mapped none (word_put_answer out.old at)) }
     ensures words { words.new
         ≡ words_after words.old (mapped none (word_put_answer out.old at)) }
@@ -28,14 +27,7 @@ pub extern "C" fn capi_put_word(out: &mut [u8], at: usize, x: u32, words: &mut [
     hand_out(words, of_put(bits::put_word(out, at, x)))
 }
 
-#[unsafe(no_mangle)]
-pub extern "C" fn capi_put_field(
-    out: &mut [u8],
-    bit: usize,
-    width: u32,
-    value: u32,
-    words: &mut [u64],
-) -> i64
+pub fn capi_put_field(out: &mut [u8], bit: usize, width: u32, value: u32, words: &mut [u64]) -> i64
     ensures answer { result ≡ code_of (mapped none (field_put_answer out.old bit width)) }
     ensures words { words.new
         ≡ words_after words.old (mapped none (field_put_answer out.old bit width)) }

@@ -7,8 +7,7 @@ ghost use Rattle.capi.specs.Answer.{code_of, words_after, one};
 
 use super::{hand_out, of_filled};
 
-#[unsafe(no_mangle)]
-pub extern "C" fn capi_triangles(records: &[u32], out: &mut [u32], words: &mut [u64]) -> i64
+pub fn capi_triangles(records: &[u32], out: &mut [u32], words: &mut [u64]) -> i64
     ensures answer { result ≡ code_of (mapped one
         (answer_for (in_items 1 (triangles_made records.now)) (at_entry (out ∷ [])))) }
     ensures words { words.new ≡ words_after words.old (mapped one

@@ -18,32 +18,28 @@ fn of_check(x: RunCheck) -> i64
     }
 }
 
-#[unsafe(no_mangle)]
-pub extern "C" fn capi_check_run(s: &[u8], bit: usize, limit: u16, count: u32) -> i64
+pub fn capi_check_run(s: &[u8], bit: usize, limit: u16, count: u32) -> i64
     ensures { result ≡ code_of (mapped none (limited s.now
         (judged (read_run s.now (width_of limit) limit count bit (zeros 1))))) }
 {
     of_check(bits::check_run(s, Run { bit, limit, count }))
 }
 
-#[unsafe(no_mangle)]
-pub extern "C" fn capi_check_fives(s: &[u8], bit: usize, limit: u16, count: u32) -> i64
+pub fn capi_check_fives(s: &[u8], bit: usize, limit: u16, count: u32) -> i64
     ensures { result ≡ code_of (mapped none (limited s.now
         (judged (read_run s.now (width_of limit) limit (5 * count) bit (zeros 5))))) }
 {
     of_check(bits::check_fives(s, Run { bit, limit, count }))
 }
 
-#[unsafe(no_mangle)]
-pub extern "C" fn capi_fill_run(s: &[u8], bit: usize, width: u32, from: u16, out: &mut [u16]) -> i64
+pub fn capi_fill_run(s: &[u8], bit: usize, width: u32, from: u16, out: &mut [u16]) -> i64
     ensures answer { result ≡ truth (run_there s.now bit width (length out.old)) }
     ensures numbers { out.new ≡ run_filled s.now bit width (from ∷ []) out.old }
 {
     flag(bits::fill_run(s, bit, width, from, out))
 }
 
-#[unsafe(no_mangle)]
-pub extern "C" fn capi_fill_fives(s: &[u8], bit: usize, width: u32, out: &mut [u16]) -> i64
+pub fn capi_fill_fives(s: &[u8], bit: usize, width: u32, out: &mut [u16]) -> i64
     ensures answer { result ≡ truth (fives_there s.now bit width out.old) }
     ensures numbers { out.new ≡ fives_filled s.now bit width out.old }
 {

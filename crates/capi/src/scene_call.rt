@@ -51,8 +51,7 @@ fn of_scene(x: SceneAnswer) -> Reply
     }
 }
 
-#[unsafe(no_mangle)]
-pub extern "C" fn capi_scene(
+pub fn capi_scene(
     kind: u32,
     payload: &[u8],
     rings: u32,

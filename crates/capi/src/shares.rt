@@ -7,13 +7,7 @@ ghost use Rattle.capi.specs.Answer.{code_of, words_after, one};
 
 use super::{hand_out, of_filled};
 
-#[unsafe(no_mangle)]
-pub extern "C" fn capi_share_points(
-    points: u32,
-    wishes: &[u32],
-    shares: &mut [u32],
-    words: &mut [u64],
-) -> i64
+pub fn capi_share_points(points: u32, wishes: &[u32], shares: &mut [u32], words: &mut [u64]) -> i64
     ensures answer { result ≡ code_of (mapped one
         (answer_for (in_items 1 (sharing points wishes.now)) (at_entry (shares ∷ [])))) }
     ensures words { words.new ≡ words_after words.old (mapped one

@@ -17,7 +17,7 @@ use display::{Change, Shown, ShownAnswer};
 // Puts entries into a buffer from place 0 on.
 fn put_entries(list: &mut [u32], entries: &[u32])
     requires { length entries.now ≤ length list.old }
-    ensures { list.new ≡ entries.now onto (λ x. x.now) list.entry }
+    ensures { list.new ≡ entries.now onto list.old }
 {
     let mut i = 0;
     while i < entries.len() {
@@ -43,7 +43,7 @@ fn list_of(list: &[u32], count: u32, total: u64) -> Shown
 fn put_list(shown: Shown, list: &mut [u32]) -> Reply
     requires { 64 ≤ length list.old }
     ensures answer { Says result (accepted (two (shown.count, shown.total))) }
-    ensures buffer { list.new ≡ shown.entries onto (λ x. x.now) list.entry }
+    ensures buffer { list.new ≡ shown.entries onto list.old }
 {
     let entries = shown.entries;
     put_entries(list, &entries);
@@ -63,8 +63,7 @@ fn of_shown(x: ShownAnswer, list: &mut [u32]) -> Reply
     }
 }
 
-#[unsafe(no_mangle)]
-pub extern "C" fn capi_none_shown(list: &mut [u32], words: &mut [u64]) -> i64
+pub fn capi_none_shown(list: &mut [u32], words: &mut [u64]) -> i64
     ensures answer { result ≡ code_of (mapped two (answer_for (accepted none_plan) (at_entry (list ∷ [])))) }
     ensures words { words.new
         ≡ words_after words.old (mapped two (answer_for (accepted none_plan) (at_entry (list ∷ [])))) }
@@ -76,8 +75,7 @@ pub extern "C" fn capi_none_shown(list: &mut [u32], words: &mut [u64]) -> i64
     hand_out(words, put_list(display::none_shown(), list))
 }
 
-#[unsafe(no_mangle)]
-pub extern "C" fn capi_show(
+pub fn capi_show(
     list: &mut [u32],
     count: u32,
     total: u64,
@@ -102,8 +100,7 @@ pub extern "C" fn capi_show(
     hand_out(words, of_shown(answer, list))
 }
 
-#[unsafe(no_mangle)]
-pub extern "C" fn capi_hide(
+pub fn capi_hide(
     list: &mut [u32],
     count: u32,
     total: u64,

@@ -11,8 +11,7 @@ ghost use Rattle.capi.specs.Values.{layout_number, pair_number, projection_numbe
 use super::{Reply, accept, flag, hand_out, side_words, word};
 use payload::{AnaglyphPair, Eye, Patch, Projection, StereoLayout};
 
-#[unsafe(no_mangle)]
-pub extern "C" fn capi_layout_from_raw(v: u32) -> i64
+pub fn capi_layout_from_raw(v: u32) -> i64
     ensures { result ≡ pos (layout_number (layout_of v)) }
 {
     match StereoLayout::from_raw(v) {
@@ -24,8 +23,7 @@ pub extern "C" fn capi_layout_from_raw(v: u32) -> i64
     }
 }
 
-#[unsafe(no_mangle)]
-pub extern "C" fn capi_pair_from_raw(v: u32) -> i64
+pub fn capi_pair_from_raw(v: u32) -> i64
     ensures { result ≡ pos (pair_number (pair_of v)) }
 {
     match AnaglyphPair::from_raw(v) {
@@ -35,8 +33,7 @@ pub extern "C" fn capi_pair_from_raw(v: u32) -> i64
     }
 }
 
-#[unsafe(no_mangle)]
-pub extern "C" fn capi_projection_from_raw(v: u32) -> i64
+pub fn capi_projection_from_raw(v: u32) -> i64
     ensures { result ≡ pos (projection_number (projection_of v)) }
 {
     match Projection::from_raw(v) {
@@ -47,15 +44,13 @@ pub extern "C" fn capi_projection_from_raw(v: u32) -> i64
     }
 }
 
-#[unsafe(no_mangle)]
-pub extern "C" fn capi_is_windowed(layout: u32) -> i64
+pub fn capi_is_windowed(layout: u32) -> i64
     ensures { result ≡ truth (windowed (layout_of layout)) }
 {
     flag(StereoLayout::from_raw(layout).is_windowed())
 }
 
-#[unsafe(no_mangle)]
-pub extern "C" fn capi_is_panoramic(projection: u32) -> i64
+pub fn capi_is_panoramic(projection: u32) -> i64
     ensures { result ≡ truth (panoramic (projection_of projection)) }
 {
     flag(Projection::from_raw(projection).is_panoramic())
@@ -70,8 +65,7 @@ fn of_patch(x: Patch) -> Reply
     }
 }
 
-#[unsafe(no_mangle)]
-pub extern "C" fn capi_projection_bounds(projection: u32, words: &mut [u64]) -> i64
+pub fn capi_projection_bounds(projection: u32, words: &mut [u64]) -> i64
     ensures answer { result ≡ code_of (accepted (patch_words (patch_of (projection_of projection)))) }
     ensures words { words.new
         ≡ words_after words.old (accepted (patch_words (patch_of (projection_of projection)))) }
@@ -88,8 +82,7 @@ fn eye_of(v: u32) -> Eye
     Eye::Right
 }
 
-#[unsafe(no_mangle)]
-pub extern "C" fn capi_uv_window(layout: u32, eye: u32, words: &mut [u64]) -> i64
+pub fn capi_uv_window(layout: u32, eye: u32, words: &mut [u64]) -> i64
     ensures answer { result ≡ code_of (accepted (map bits_of (window_of (layout_of layout) (eye_of eye)))) }
     ensures words { words.new
         ≡ words_after words.old (accepted (map bits_of (window_of (layout_of layout) (eye_of eye)))) }
@@ -101,8 +94,7 @@ pub extern "C" fn capi_uv_window(layout: u32, eye: u32, words: &mut [u64]) -> i6
     )
 }
 
-#[unsafe(no_mangle)]
-pub extern "C" fn capi_anaglyph_mix(pair: u32, eye: u32, words: &mut [u64]) -> i64
+pub fn capi_anaglyph_mix(pair: u32, eye: u32, words: &mut [u64]) -> i64
     ensures answer { result ≡ code_of (accepted (map bits_of (mix_of (pair_of pair) (eye_of eye)))) }
     ensures words { words.new
         ≡ words_after words.old (accepted (map bits_of (mix_of (pair_of pair) (eye_of eye)))) }
@@ -111,15 +103,13 @@ pub extern "C" fn capi_anaglyph_mix(pair: u32, eye: u32, words: &mut [u64]) -> i
     hand_out(words, accept(&[word(m[0]), word(m[1]), word(m[2])]))
 }
 
-#[unsafe(no_mangle)]
-pub extern "C" fn capi_fov_for_zoom(zoom: f32) -> i64
+pub fn capi_fov_for_zoom(zoom: f32) -> i64
     ensures { result ≡ pos (bits_of (fov_for_zoom zoom)) }
 {
     bits::float_bits(payload::fov_for_zoom(zoom)) as i64
 }
 
-#[unsafe(no_mangle)]
-pub extern "C" fn capi_zoom_for_fov(fov: f32) -> i64
+pub fn capi_zoom_for_fov(fov: f32) -> i64
     ensures { result ≡ pos (bits_of (zoom_for_fov fov)) }
 {
     bits::float_bits(payload::zoom_for_fov(fov)) as i64

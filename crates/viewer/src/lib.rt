@@ -1,5 +1,7 @@
 // What the Rust viewer links: a mesh list measured, and the four counts. Each answers one number: a length, or the
 // number of a refusal, negative.
+#![tactic(auto)]
+
 ghost use Rattle.std.specs.Prelude.{◌≡◌};
 ghost use Rattle.bits.specs.Verdict.{mapped};
 ghost use Rattle.payload.specs.Count.{counted_says, vertex_count, index_count, cubemap_vertex_count, cubemap_index_count};

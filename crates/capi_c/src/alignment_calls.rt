@@ -1,0 +1,24 @@
+// The calls of the alignment bench.
+ghost use Rattle.std.specs.Prelude.{◌≡◌, [], ◌∷◌};
+ghost use Rattle.bits.specs.Verdict.{mapped};
+ghost use Rattle.payload.specs.Lent.{answer_for, buffers_after, at_entry};
+ghost use Rattle.alignment.specs.LookUp.{looked_up};
+ghost use Rattle.capi.specs.Answer.{code_of, words_after, one};
+
+#[unsafe(no_mangle)]
+pub extern "C" fn capi_look_up(
+    payload: &[u8],
+    number: u32,
+    asked: &[u32],
+    vertices: &mut [u16],
+    words: &mut [u64],
+) -> i64
+    ensures answer { result ≡ code_of (mapped one
+        (answer_for (looked_up payload.now number asked.now) (at_entry (vertices ∷ [])))) }
+    ensures words { words.new ≡ words_after words.old (mapped one
+        (answer_for (looked_up payload.now number asked.now) (at_entry (vertices ∷ [])))) }
+    ensures buffers { vertices.new ∷ []
+        ≡ buffers_after (looked_up payload.now number asked.now) (at_entry (vertices ∷ [])) }
+{
+    capi::alignment_calls::capi_look_up(payload, number, asked, vertices, words)
+}
