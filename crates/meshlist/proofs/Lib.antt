@@ -1,5 +1,4 @@
 -- The laws that the functions' proofs cite, and the theorems of specs/.
-pub mod InputLaws
 pub mod ListingLaws
 pub mod LineProofs
 pub mod RefusalProofs

@@ -2,7 +2,7 @@
 use Prim.Native.Nat.{ℕ, ◌*◌, ◌/◌, ◌≤◌}
 use mathlib.Core.Path.{◌≡◌, refl, sym, ◌∙◌, ap}
 use mathlib.Core.Bool.{Bool, true, false, cond}
-use mathlib.Core.List.{List, [], ◌∷◌}
+use mathlib.Core.List.{List}
 use native.Mathlib.Omega.{arith}
 use lib.Dec.{leb}
 use lib.ListN.{length, take}
@@ -17,7 +17,7 @@ use Rattle.payload.specs.MeshDrawing.{drawn_records, submesh_total, point_total}
 use Rattle.payload.specs.Textures.{list_records, list_textures}
 use Rattle.payload.proofs.Theorems.{records-length, record_textures}
 use Rattle.meshlist.specs.Listing.{listed, line_counts}
-use Rattle.meshlist.specs.Laws.{Lines, ListedLines}
+use Rattle.meshlist.specs.Laws.{ListedLines}
 use Rattle.meshlist.proofs.ListingLaws.{textures_of, both_left}
 
 short : (s : List ℕ) (l : List Mesh) → listed s ≡ accepted l → length s ≤ 16384

@@ -14,7 +14,7 @@ use Rattle.meshlist.specs.declared.listing.Listing.TheVariants as L
 -- how many bytes were read, none where a read failed
 abbrev pub input_length : Input → ℕ
 input_length (I.Bytes n) = n
-input_length I.Failed = 0
+input_length (I.Failed e) = 0
 
 -- the mesh list of the input, which has at most 16,384 bytes: 2 where it has more
 unfoldable pub listed : List ℕ → Verdict (List Mesh)

@@ -2,36 +2,36 @@
 ghost use Rattle.std.specs.Prelude.{◌-◌, ◌≤◌, length};
 ghost use Rattle.meshlist.specs.Listing.{input_length};
 
-use libc::STDIN_FILENO;
+use std::io;
+use std::io::Read;
 
-// How many bytes were read, or that a read failed.
-#[derive(Drop)]
+// How many bytes were read, or that a read failed, and why.
+#[derive(Clone, Copy)]
 pub enum Input {
     Bytes(usize),
-    Failed,
+    Failed(io::Error),
 }
 
 // One read into buf from place n on: no bytes where the input ends.
-fn read_once(buf: &mut [u8], n: usize) -> Input
+fn read_once(reader: &mut impl Read, buf: &mut [u8], n: usize) -> Input
     requires { n ≤ length buf.old }
     ensures { input_length result ≤ length buf.old - n }
 {
-    let got = libc::read(STDIN_FILENO, &mut buf[n..]);
-    if got < 0 {
-        return Input::Failed;
+    match reader.read(&mut buf[n..]) {
+        Ok(got) => Input::Bytes(got),
+        Err(error) => Input::Failed(error),
     }
-    Input::Bytes(io::count(got, &buf[n..]))
 }
 
 // Reads until the input ends or buf is full. A read that fails is not the end of the input.
-pub fn read_input(buf: &mut [u8]) -> Input
+pub fn read_input(reader: &mut impl Read, buf: &mut [u8]) -> Input
     ensures { input_length result ≤ length buf.new }
 {
     let mut n: usize = 0;
     while n < buf.len() {
-        match read_once(buf, n) {
-            Input::Failed => {
-                return Input::Failed;
+        match read_once(reader, buf, n) {
+            Input::Failed(error) => {
+                return Input::Failed(error);
             }
             Input::Bytes(k) => {
                 if k == 0 {

@@ -5,9 +5,10 @@ ghost use Rattle.meshlist.specs.Listing.{listing_says, listing, listing_plan, re
 
 use crate::print::{print_heading, print_record, print_refusal, print_texture, print_total};
 use payload::{Filled, RecordsAnswer};
+use std::io;
 
 // The counts of the list, or the number of the refusal.
-#[derive(Drop)]
+#[derive(Clone, Copy)]
 pub enum Listing {
     Counts {
         meshes: usize,
@@ -54,57 +55,56 @@ fn list_payload(payload: &[u8], records: &mut [u32], textures: &mut [u32]) -> Li
 }
 
 // Prints the first records of those in `records`.
-fn print_records(records: &[u32], count: usize) -> bool
+fn print_records(rt: &impl Print, records: &[u32], count: usize) -> io::Result<()>
     requires { 5 * count ≤ length records.now }
 {
     let mut left = count;
     let mut at: usize = 0;
     while 0 < left {
-        if !print_record(
+        print_record(
+            rt,
             records[at],
             records[at + 1],
             records[at + 2],
             records[at + 3],
             records[at + 4],
-        ) {
-            return false;
-        }
+        )?;
         at += 5;
         left -= 1;
     }
-    true
+    Ok(())
 }
 
 // Prints the first textures of those in `textures`, each with its points.
-fn print_textures(textures: &[u32], count: usize) -> bool
+fn print_textures(rt: &impl Print, textures: &[u32], count: usize) -> io::Result<()>
     requires { 2 * count ≤ length textures.now }
 {
     let mut left = count;
     let mut at: usize = 0;
     while 0 < left {
-        if !print_texture(textures[at], textures[at + 1]) {
-            return false;
-        }
+        print_texture(rt, textures[at], textures[at + 1])?;
         at += 2;
         left -= 1;
     }
-    true
+    Ok(())
 }
 
-// Prints the listing of a payload, and answers whether all of it was written.
-pub fn list(payload: &[u8]) -> bool {
+// Prints the listing of a payload, and fails where not all of it was written.
+pub fn list(rt: &impl Print, payload: &[u8]) -> io::Result<()> {
     let mut records = [0u32; 13650];
     let mut words = [0u32; 512];
     match list_payload(payload, &mut records, &mut words) {
-        Listing::Refused(number) => print_refusal(number),
+        Listing::Refused(number) => print_refusal(rt, number),
         Listing::Counts {
             meshes,
             submeshes,
             points,
             textures,
-        } => print_heading()
-            && print_records(&records, submeshes)
-            && print_textures(&words, textures)
-            && print_total(meshes, submeshes, points),
+        } => {
+            print_heading(rt)?;
+            print_records(rt, &records, submeshes)?;
+            print_textures(rt, &words, textures)?;
+            print_total(rt, meshes, submeshes, points)
+        }
     }
 }

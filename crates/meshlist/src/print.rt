@@ -1,50 +1,62 @@
-// Lines of text, all but the last on standard output. Each function answers whether all of it was written.
-use libc::{STDERR_FILENO, STDOUT_FILENO};
+// Lines of text, all but the last on standard output. Each function fails where not all of it was written.
+use std::io;
 
-fn print_number(n: u64, after: u8) -> bool {
-    io::print_decimal(STDOUT_FILENO, n) && io::write_all(STDOUT_FILENO, &[after])
+fn print_number(rt: &impl Print, n: u64, after: char) -> io::Result<()> {
+    print!(rt; "{n}{after}")
 }
 
-fn print_word(n: u32, after: u8) -> bool {
-    print_number(n as u64, after)
+fn print_word(rt: &impl Print, n: u32, after: char) -> io::Result<()> {
+    print_number(rt, n as u64, after)
 }
 
-pub fn print_heading() -> bool {
-    io::write_all(STDOUT_FILENO, b"eye texture mode first points\n")
+pub fn print_heading(rt: &impl Print) -> io::Result<()> {
+    println!(rt; "eye texture mode first points")
 }
 
 // A record on a line of its own.
-pub fn print_record(eye: u32, texture: u32, mode: u32, first: u32, points: u32) -> bool {
-    print_word(eye, b' ')
-        && print_word(texture, b' ')
-        && print_word(mode, b' ')
-        && print_word(first, b' ')
-        && print_word(points, b'\n')
+pub fn print_record(
+    rt: &impl Print,
+    eye: u32,
+    texture: u32,
+    mode: u32,
+    first: u32,
+    points: u32,
+) -> io::Result<()> {
+    print_word(rt, eye, ' ')?;
+    print_word(rt, texture, ' ')?;
+    print_word(rt, mode, ' ')?;
+    print_word(rt, first, ' ')?;
+    print_word(rt, points, '\n')
 }
 
 // A texture and the points of its records together.
-pub fn print_texture(texture: u32, points: u32) -> bool {
-    io::write_all(STDOUT_FILENO, b"texture ")
-        && print_word(texture, b' ')
-        && io::write_all(STDOUT_FILENO, b"points ")
-        && print_word(points, b'\n')
+pub fn print_texture(rt: &impl Print, texture: u32, points: u32) -> io::Result<()> {
+    print!(rt; "texture ")?;
+    print_word(rt, texture, ' ')?;
+    print!(rt; "points ")?;
+    print_word(rt, points, '\n')
 }
 
-pub fn print_total(meshes: usize, submeshes: usize, points: usize) -> bool {
-    io::write_all(STDOUT_FILENO, b"total ")
-        && print_number(meshes as u64, b' ')
-        && print_number(submeshes as u64, b' ')
-        && print_number(points as u64, b'\n')
+pub fn print_total(
+    rt: &impl Print,
+    meshes: usize,
+    submeshes: usize,
+    points: usize,
+) -> io::Result<()> {
+    print!(rt; "total ")?;
+    print_number(rt, meshes as u64, ' ')?;
+    print_number(rt, submeshes as u64, ' ')?;
+    print_number(rt, points as u64, '\n')
 }
 
-pub fn print_refusal(number: u8) -> bool {
-    io::write_all(STDOUT_FILENO, b"refused ") && print_number(number as u64, b'\n')
+pub fn print_refusal(rt: &impl Print, number: u8) -> io::Result<()> {
+    print!(rt; "refused ")?;
+    print_number(rt, number as u64, '\n')
 }
 
 // How the program is used, on standard error.
-pub fn print_use() -> bool {
-    io::write_all(
-        STDERR_FILENO,
-        b"meshlist: reads a mesh list from standard input; arguments are not used: meshlist < FILE\n",
+pub fn print_use(rt: &impl Eprint) -> io::Result<()> {
+    eprintln!(rt;
+        "meshlist: reads a mesh list from standard input; arguments are not used: meshlist < FILE"
     )
 }

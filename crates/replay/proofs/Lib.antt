@@ -2,4 +2,3 @@
 pub mod SumLaws
 pub mod TextLaws
 pub mod ArgumentLaws
-pub mod LineLaws

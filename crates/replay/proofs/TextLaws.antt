@@ -1,13 +1,11 @@
 -- What digits spell, digit by digit. Assumes nothing.
-use Rattle.std.proofs.Common.{◌≡◌, ℕ, suc, ◌+◌, ◌-◌, ◌*◌, ◌^◌, ◌<◌, ◌≤◌, List, [], ◌∷◌, ◌++◌, length, get_or, take, drop, set, sym, refl, ap, ◌∙◌, append_assoc, append-nil, add-one, arith, length-drop, length-take-le, take_all, drop-cons, take-suc-set, le-ltb, lt-ltb, le-leb}
+use Rattle.std.proofs.Common.{◌≡◌, ℕ, suc, ◌+◌, ◌-◌, ◌*◌, ◌^◌, ◌<◌, ◌≤◌, List, [], ◌∷◌, ◌++◌, length, get_or, take, drop, set, sym, refl, ap, ◌∙◌, append_assoc, append-nil, add-one, arith, take_all, drop-cons, take-suc-set, le-ltb, lt-ltb, le-leb}
 use lib.Seq.{drop-length}
 use borrow.Author.Tests.{lt-leb}
 use Rattle.replay.specs.declared.text.Hex.{Hex}
 use Rattle.replay.specs.declared.text.Hex.TheVariants as H
 use Rattle.replay.specs.declared.text.Number.TheVariants as N
-use Rattle.replay.specs.Text.{digit_of, hex_from, hex_of, token_end, with_next, token_at, pair_of, pairs_of, byte_count}
-use Rattle.replay.specs.declared.text.Bytes.{Bytes}
-use Rattle.replay.specs.declared.text.Bytes.TheVariants as B
+use Rattle.replay.specs.Text.{digit_of, hex_from, hex_of, token_end, with_next, token_at, pair_of, pairs_of}
 
 pub some_digits : (s : List ℕ) → 0 < length s → hex_of s ≡ hex_from 0 s
 unfolding hex_of
@@ -48,34 +46,6 @@ unfolding hex_from
 digits_end v s i k l o w =
     let e : i ≡ length s = omega arith in
     sym (ap (hex_from v) (ap (λ (n : ℕ). drop n s) e ∙ drop-length s)) ∙ w ∙ sym (some_digits s o)
-
--- the digits of n bytes, from place a to place e of the line
-pub part-lengths : (line out : List ℕ) (a e n : ℕ) → e ≤ length line → a ≤ e → n ≤ length out → e - a ≡ 2 * n → length (take (e - a) (drop a line)) ≡ 2 * length (take n out)
-part-lengths line out a e n h k o q =
-    length-take-le (e - a) (drop a line) (rw (length-drop a line) (omega arith)) ∙ q ∙ ap (λ (m : ℕ). 2 * m) (sym (length-take-le n out o))
-
-pub stored-count : (r : Bytes) (n next m : ℕ) → r ≡ B.Stored n next → byte_count r ≤ m → n ≤ m
-stored-count r n next m e h = rw e at h
-
--- two digits of values h and l
-module _ (high low h l : ℕ) (e : h ≡ digit_of high) (f : l ≡ digit_of low) where
-  pub no_high : 15 < h → 256 ≡ pair_of high low
-  unfolding pair_of
-  no_high a = let a' : 15 < digit_of high = omega arith in simp (lt-leb (digit_of high) 15 a')
-
-  pub no_low : h ≤ 15 → 15 < l → 256 ≡ pair_of high low
-  unfolding pair_of
-  no_low a b =
-      let a' : digit_of high ≤ 15 = omega arith in
-      let b' : 15 < digit_of low = omega arith in
-      simp (le-leb (digit_of high) 15 a', lt-leb (digit_of low) 15 b')
-
-  pub both : h ≤ 15 → l ≤ 15 → h * 16 + l ≡ pair_of high low
-  unfolding pair_of
-  both a b =
-      let a' : digit_of high ≤ 15 = omega arith in
-      let b' : digit_of low ≤ 15 = omega arith in
-      rw (e, f) (simp (le-leb (digit_of high) 15 a', le-leb (digit_of low) 15 b'))
 
 module _ (s out : List ℕ) (i : ℕ) (e : length s ≡ 2 * length out) (w : take i out ++ pairs_of (drop (2 * i) s) ≡ pairs_of s) where
   -- a loop's turn: b is the byte of the next two digits

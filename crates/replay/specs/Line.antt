@@ -9,7 +9,7 @@ use Rattle.replay.specs.declared.line.Judgement.TheVariants as W
 
 -- the calls' numbers are below this; 0 is that of a line that cannot be read
 abbrev pub call_numbers : ℕ
-call_numbers = 70
+call_numbers = 68
 
 abbrev pub read_call : Reading → ℕ
 read_call (R.Call call n code sum) = call

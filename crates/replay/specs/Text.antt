@@ -1,12 +1,16 @@
 -- What the tokens of a line spell.
-use Rattle.std.specs.Prelude.{ℕ, ◌+◌, ◌-◌, ◌*◌, ◌^◌, cond, ◌&&◌, List, [], ◌∷◌, length, take, drop, nat_le, nat_lt}
+use Rattle.std.specs.Prelude.{ℕ, ◌+◌, ◌-◌, ◌*◌, ◌^◌, ◌==◌, cond, ◌&&◌, List, [], ◌∷◌, length, take, drop, nat_le, nat_lt}
+use Rattle.std.specs.List.{position_or_len}
 use Rattle.replay.specs.declared.text.Hex.{Hex}
 use Rattle.replay.specs.declared.text.Hex.TheVariants as H
-use Rattle.bytes.specs.Bytes.{index_of, slice}
 use Rattle.replay.specs.declared.text.Number.{Number}
 use Rattle.replay.specs.declared.text.Number.TheVariants as N
 use Rattle.replay.specs.declared.text.Bytes.{Bytes}
 use Rattle.replay.specs.declared.text.Bytes.TheVariants as B
+
+-- how many numbers of a list come before the first b: all of them where there is none
+abbrev pub index_of : ℕ → List ℕ → ℕ
+index_of b s = position_or_len (λ x. x == b) s
 
 -- the value of a digit, 0 to 9 and a to f, and 16 of any other byte
 unfoldable pub digit_of : ℕ → ℕ
@@ -24,7 +28,7 @@ hex_of (b ∷ bs) = hex_from 0 (b ∷ bs)
 
 -- the place of the first space from a place on, and the line's length where there is none
 abbrev pub token_end : List ℕ → ℕ → ℕ
-token_end line at = at + index_of 32 (slice at (length line) line)
+token_end line at = at + index_of 32 (drop at line)
 
 -- a token's number, with the place after it
 abbrev pub with_next : Hex → ℕ → Number

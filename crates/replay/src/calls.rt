@@ -3,7 +3,6 @@
 // holds bytes a5.
 ghost use Rattle.std.specs.Prelude.{◌≤◌};
 
-mod alignment_calls;
 mod arguments;
 mod byte_calls;
 mod counts;
@@ -25,14 +24,14 @@ use crate::sum;
 use arguments::{answer_bits, word};
 
 // What a call answered, as 64 bits, and the sum of what it was lent; or that a length is above its bound.
-#[derive(Drop)]
+#[derive(Clone, Copy)]
 pub enum Outcome {
     Answer(u64, u64),
     Unreadable,
 }
 
 // The numbers of the calls are below this. 0 is that of a line that cannot be read.
-pub const CALLS: usize = 70;
+pub const CALLS: usize = 68;
 
 // The words that are lent, as they are before a call.
 const WORDS: [u64; 8] = [0xa5a5_a5a5_a5a5_a5a5; 8];
@@ -62,7 +61,6 @@ fn call_words(call: usize, args: &[u64; 10], data: &[u8], words: &mut [u64]) -> 
         0x16 | 0x18 => crops::parse(call, data, words),
         0x3d => crops::equi_crop(args, words),
         0x20 | 0x3a => meshes::measure(call, data, words),
-        0x44 => meshes::find(args, data, words),
         0x3b | 0x3c => grids::lengths(call, args, words),
         0x26..=0x29 => counts::worded(call, args, words),
         _ => view::worded(call, args, words),
@@ -243,7 +241,6 @@ pub fn call(call: usize, args: &[u64; 10], data: &[u8]) -> Outcome {
         0x3e => records::lend_triangles(data, args[0], args[1]),
         0x41 | 0x42 => shown::lend_list(call, args, data, args[3], args[4], args[5]),
         0x43 => shares::lend_shares(word(args[0]), data, args[1], args[2]),
-        0x45 => alignment_calls::lend_look_up(data, args, args[1], args[2]),
         0x0c | 0x0e..=0x12 | 0x15 | 0x1f | 0x2a | 0x2b | 0x2d | 0x2f | 0x30 | 0x32 | 0x33 => {
             answer_unlent(call, args, data)
         }

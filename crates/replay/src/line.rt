@@ -6,21 +6,21 @@ use crate::calls::{CALLS, Outcome, call};
 use crate::text::{Bytes, Number, bytes_at, number_at};
 
 // A place of the line, or that an argument cannot be read.
-#[derive(Drop)]
+#[derive(Clone, Copy)]
 enum Place {
     At(usize),
     Bad,
 }
 
 // A line that can be read: the call, the length of its data, the due answer as 64 bits and the due sum.
-#[derive(Drop)]
+#[derive(Clone, Copy)]
 enum Reading {
     Call(usize, usize, u64, u64),
     Bad,
 }
 
 // What a line is, and its call: 0 where it cannot be read.
-#[derive(Drop)]
+#[derive(Clone, Copy)]
 pub enum Judgement {
     Comment,
     Same(usize),
@@ -33,7 +33,7 @@ fn argument_count(call: usize) -> u64 {
         0x01 | 0x16 | 0x18 | 0x20 | 0x3a => 0,
         0x04 | 0x05 | 0x0a | 0x0d | 0x19 | 0x1d | 0x1f | 0x26 | 0x27 | 0x2c | 0x2e => 2,
         0x34 | 0x3e => 2,
-        0x0e | 0x13 | 0x1a | 0x1c | 0x21 | 0x35 | 0x36 | 0x38 | 0x3c | 0x43 | 0x45 => 3,
+        0x0e | 0x13 | 0x1a | 0x1c | 0x21 | 0x35 | 0x36 | 0x38 | 0x3c | 0x43 => 3,
         0x14 | 0x15 | 0x1e | 0x23 | 0x37 | 0x39 | 0x3d => 4,
         0x17 | 0x24 => 5,
         0x3b | 0x41 | 0x42 => 6,
@@ -140,6 +140,7 @@ fn read_line(line: &[u8], args: &mut [u64; 10], data: &mut [u8]) -> Reading
 }
 
 // Whether the outcome of a call is the due one.
+#[tactic(auto, unfolding(crate::specs::Line::judged))]
 fn compared(call: usize, code: u64, sum: u64, outcome: Outcome) -> Judgement
     requires { call < call_numbers }
     ensures value { result ≡ judged call code sum outcome }

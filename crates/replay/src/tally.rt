@@ -5,6 +5,8 @@ ghost use Rattle.replay.specs.Line.{call_numbers};
 use crate::calls::CALLS;
 use crate::line::{Judgement, judge};
 use crate::print::{print_counts, print_differs, print_total};
+use crate::text::find;
+use std::io;
 
 // One more of a call. A list has fewer than 2^64 lines.
 fn count(counts: &mut [u64; CALLS], call: usize)
@@ -31,30 +33,33 @@ fn note(line: &[u8], same: &mut [u64; CALLS], different: &mut [u64; CALLS]) -> b
 }
 
 // Prints the number of a line that differs, where it is one of the first ten.
-fn show(line: u64, differing: u64) -> bool {
+fn show(rt: &impl Print, line: u64, differing: u64) -> io::Result<()> {
     if 10 < differing {
-        return true;
+        return Ok(());
     }
-    print_differs(line)
+    print_differs(rt, line)
 }
 
 // Counts every line.
-fn walk(text: &[u8], same: &mut [u64; CALLS], different: &mut [u64; CALLS]) -> bool {
+fn walk(
+    rt: &impl Print,
+    text: &[u8],
+    same: &mut [u64; CALLS],
+    different: &mut [u64; CALLS],
+) -> io::Result<()> {
     let mut at: usize = 0;
     let mut line: u64 = 0;
     let mut differing: u64 = 0;
     while at < text.len() {
-        let end = bytes::scan::find(text, at, text.len(), b'\n');
+        let end = find(text, at, b'\n');
         line = std::num::wrapping_add_u64(line, 1);
         if note(&text[at..end], same, different) {
             differing = std::num::wrapping_add_u64(differing, 1);
-            if !show(line, differing) {
-                return false;
-            }
+            show(rt, line, differing)?;
         }
         at = end + 1;
     }
-    true
+    Ok(())
 }
 
 fn sum_of(counts: &[u64; CALLS]) -> u64 {
@@ -68,30 +73,28 @@ fn sum_of(counts: &[u64; CALLS]) -> u64 {
 }
 
 // The lines of the calls from 1 on.
-fn print_calls(same: &[u64; CALLS], different: &[u64; CALLS]) -> bool {
+fn print_calls(rt: &impl Print, same: &[u64; CALLS], different: &[u64; CALLS]) -> io::Result<()> {
     let mut call: usize = 1;
     while call < CALLS {
-        if !print_counts(call, same[call], different[call]) {
-            return false;
-        }
+        print_counts(rt, call, same[call], different[call])?;
         call += 1;
     }
-    true
+    Ok(())
 }
 
 // The line of the lines that could not be read, where there are any.
-fn print_unreadable(different: u64) -> bool {
+fn print_unreadable(rt: &impl Print, different: u64) -> io::Result<()> {
     if different == 0 {
-        return true;
+        return Ok(());
     }
-    print_counts(0, 0, different)
+    print_counts(rt, 0, 0, different)
 }
 
-pub fn replay(text: &[u8]) -> bool {
+pub fn replay(rt: &impl Print, text: &[u8]) -> io::Result<()> {
     let mut same = [0u64; CALLS];
     let mut different = [0u64; CALLS];
-    walk(text, &mut same, &mut different)
-        && print_calls(&same, &different)
-        && print_unreadable(different[0])
-        && print_total(sum_of(&same), sum_of(&different))
+    walk(rt, text, &mut same, &mut different)?;
+    print_calls(rt, &same, &different)?;
+    print_unreadable(rt, different[0])?;
+    print_total(rt, sum_of(&same), sum_of(&different))
 }

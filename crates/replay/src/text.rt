@@ -1,29 +1,46 @@
 // The tokens of a line: numbers in hexadecimal, and bytes in pairs of digits.
-ghost use Rattle.std.specs.Prelude.{◌≡◌, ◌*◌, ◌≤◌, true, length};
-ghost use Rattle.replay.specs.Text.{digit_of, hex_of, token_at, pair_of, pairs_of, byte_count};
+ghost use Rattle.std.specs.Prelude.{◌≡◌, ◌+◌, ◌*◌, ◌≤◌, true, length, drop};
+ghost use Rattle.replay.specs.Text.{index_of, digit_of, hex_of, token_at, pair_of, pairs_of, byte_count};
+
+// The place of the first byte b from a place on, and the length where there is none.
+pub fn find(s: &[u8], from: usize, b: u8) -> usize
+    requires { from ≤ length s.now }
+    ensures bound { result ≤ length s.now }
+    ensures place { result ≡ from + index_of b (drop from s.now) }
+{
+    let mut i = from;
+    while i < s.len() {
+        if s[i] == b {
+            return i;
+        }
+        i += 1;
+    }
+    i
+}
 
 // The number that a whole token spells.
-#[derive(Drop)]
+#[derive(Clone, Copy)]
 pub enum Hex {
     Value(u64),
     Bad,
 }
 
 // A number, and the place after the space that ends it.
-#[derive(Drop)]
+#[derive(Clone, Copy)]
 pub enum Number {
     Value(u64, usize),
     Bad,
 }
 
 // How many bytes were stored, and the place after the space that ends them.
-#[derive(Drop)]
+#[derive(Clone, Copy)]
 pub enum Bytes {
     Stored(usize, usize),
     Bad,
 }
 
 // The value of a digit, and 16 of any other byte.
+#[tactic(auto, unfolding(crate::specs::Text::digit_of))]
 fn digit(b: u8) -> u64
     ensures { result ≡ digit_of b }
 {
@@ -73,7 +90,7 @@ pub fn number_at(line: &[u8], at: usize) -> Number
     if line.len() <= at {
         return Number::Bad;
     }
-    let end = bytes::scan::find(line, at, line.len(), b' ');
+    let end = find(line, at, b' ');
     if line.len() <= end {
         return Number::Bad;
     }
@@ -84,6 +101,7 @@ pub fn number_at(line: &[u8], at: usize) -> Number
 }
 
 // The byte that two digits spell, and 256 where one is no digit.
+#[tactic(auto, unfolding(crate::specs::Text::pair_of))]
 fn pair(high: u8, low: u8) -> u64
     ensures { result ≡ pair_of high low }
 {
@@ -122,7 +140,7 @@ pub fn bytes_at(line: &[u8], at: usize, out: &mut [u8]) -> Bytes
     if line.len() <= at {
         return Bytes::Bad;
     }
-    let end = bytes::scan::find(line, at, line.len(), b' ');
+    let end = find(line, at, b' ');
     let first = at + 1;
     if line.len() <= end {
         return Bytes::Bad;

@@ -1,13 +1,13 @@
-// Calls 20 to 24, 3a, 3f and 44: mesh lists and mesh bodies.
+// Calls 20 to 24, 3a and 3f: mesh lists and mesh bodies.
 ghost use Rattle.std.specs.Prelude.{◌≤◌};
 
-use super::arguments::{answer_bits, word};
+use super::arguments::answer_bits;
 use super::unpack::{unpack_u16s, unpack_u32s};
 use super::{Outcome, WORDS};
 use crate::sum;
 use capi::meshes::{
-    capi_find_submesh, capi_measure_mesh, capi_measure_meshes, capi_mesh_records, capi_parse_mesh,
-    capi_parse_meshes, capi_texture_points, capi_write_mesh,
+    capi_measure_mesh, capi_measure_meshes, capi_mesh_records, capi_parse_mesh, capi_parse_meshes,
+    capi_texture_points, capi_write_mesh,
 };
 
 pub fn measure(call: usize, data: &[u8], words: &mut [u64]) -> i64 {
@@ -15,10 +15,6 @@ pub fn measure(call: usize, data: &[u8], words: &mut [u64]) -> i64 {
         0x20 => capi_measure_meshes(data, words),
         _ => capi_measure_mesh(data, words),
     }
-}
-
-pub fn find(args: &[u64; 10], payload: &[u8], words: &mut [u64]) -> i64 {
-    capi_find_submesh(payload, word(args[0]), words)
 }
 
 pub fn textures(payload: &[u8], out: &mut [u32], words: &mut [u64]) -> i64 {

@@ -2,7 +2,7 @@
 use bits::{BitCursor, FieldRead};
 
 // An item and the bit place after it.
-#[derive(Drop)]
+#[derive(Clone, Copy)]
 struct Item {
     value: u32,
     after: usize,

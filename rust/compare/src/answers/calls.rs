@@ -23,7 +23,7 @@ const fn call(
 }
 
 /// The first one has number 1.
-pub const CALLS: [Call; 69] = [
+pub const CALLS: [Call; 67] = [
     call("byte_new", &[], "-", "words"),
     call("position", &["at"], "-", "words"),
     call("remaining", &["at"], "bytes", "words"),
@@ -192,12 +192,5 @@ pub const CALLS: [Call; 69] = [
         &["points", "wishes", "shares"],
         "wishes",
         "words shares",
-    ),
-    call("find_submesh", &["number"], "payload", "words"),
-    call(
-        "look_up",
-        &["number", "asked", "vertices"],
-        "asked payload",
-        "words vertices",
     ),
 ];

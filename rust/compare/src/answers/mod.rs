@@ -3,7 +3,6 @@
 //! An answer is that of the Rust, with the number of its refusal as the subjects say it, or where
 //! the Rust is not asked their own. Nothing here calls the library.
 
-mod alignment;
 mod bodies;
 mod bytes;
 mod calls;
@@ -37,7 +36,7 @@ use line::List;
 type Group = (&'static str, fn(&mut List, &mut Random));
 
 /// Each takes random numbers of its own name.
-const GROUPS: [Group; 24] = [
+const GROUPS: [Group; 23] = [
     ("answers bytes", bytes::add),
     ("answers fields", fields::add),
     ("answers numbers", numbers::add),
@@ -61,7 +60,6 @@ const GROUPS: [Group; 24] = [
     ("answers textures", textures::add),
     ("answers shown", shown::add),
     ("answers shares", shares::add),
-    ("answers alignment", alignment::add),
 ];
 
 const SOURCE: &str = "\
