@@ -1,4 +1,4 @@
-//! Links the static libraries that `rt staticlib` made.
+//! Links the static libraries that `.ci/libraries` made.
 
 use std::env;
 use std::path::{Path, PathBuf};
@@ -26,7 +26,7 @@ fn link(folder: &Path, name: &str) {
     println!("cargo:rerun-if-changed={}", library.display());
     if !library.is_file() {
         eprintln!(
-            "no {}: build it with `rt staticlib {name}`, or set {VARIABLE} to its folder",
+            "no {}: build it with `.ci/libraries`, or set {VARIABLE} to its folder",
             library.display()
         );
         exit(1);

@@ -78,21 +78,21 @@ fn spread(argument: String) -> Vec<String> {
 
 #[test]
 fn the_declarations_are_those_of_the_source() {
-    let mut source = in_the_source("capi");
+    let mut source = in_the_source("capi_c");
     source.extend(in_the_source("viewer"));
     assert!(source.len() > 60);
     assert_eq!(declared(), source);
 }
 
-/// The public calls that a crate hands on: `pub use MODULE::call;`.
+/// The public calls that a crate hands on: `pub use MODULE::call;` or `pub use MODULE::{Type, call};`.
 fn public_calls(krate: &str) -> Vec<String> {
     let path = root().join("crates").join(krate).join("src/lib.rt");
     let text = fs::read_to_string(path).expect("a crate");
-    let names = text.lines().filter_map(|line| {
-        let name = line.strip_prefix("pub use ")?.strip_suffix(';')?;
-        name.rsplit("::").next()
-    });
-    names
+    let uses = text.split("\npub use ").skip(1);
+    uses.map(|rest| rest.split_once(';').expect("its end").0)
+        .filter_map(|path| path.rsplit("::").next())
+        .flat_map(|names| names.trim_matches(['{', '}']).split(','))
+        .map(str::trim)
         .filter(|name| name.starts_with(|letter: char| letter.is_lowercase()))
         .map(String::from)
         .collect()
