@@ -8,7 +8,8 @@ use Rattle.alignment.specs.LookUp.{looked_up}
 
 pub record Marked : Type 0 where
   -- out of order and again: all three fields are walked
-  pub m1 : looked_up one_box 0 (2 ∷ 0 ∷ 1 ∷ 2 ∷ []) ≡ accepted (record { answer = 3; lists = (2 ∷ 0 ∷ 1 ∷ 2 ∷ []) ∷ [] })
+  pub m1 : looked_up one_box 0 (2 ∷ 0 ∷ 1 ∷ 2 ∷ [])
+      ≡ accepted (record { answer = 3; lists = (2 ∷ 0 ∷ 1 ∷ 2 ∷ []) ∷ [] })
   -- with the fields 4, 3 and 0 its points are 2, 0 and 0: vertex numbers, not point numbers
   pub turned : looked_up (set one_box 38 0x8C) 0 (1 ∷ 0 ∷ 2 ∷ [])
       ≡ accepted (record { answer = 3; lists = (0 ∷ 2 ∷ 0 ∷ []) ∷ [] })

@@ -1,6 +1,7 @@
 -- The theorems about this crate's definitions, by name. Their proofs are in proofs/Theorems.antt and
 -- proofs/Marked.antt.
-use Rattle.std.specs.Prelude.{◌≡◌, ℕ, ◌+◌, ◌-◌, ◌*◌, ◌/◌, ◌%◌, ◌^◌, ◌<◌, ◌≤◌, ◌↔◌, List, [], ◌∷◌, ◌++◌, map, length, pos, negsuc, ◌+ℤ◌, ◌≢◌, slice_index}
+use Rattle.std.specs.Prelude.{◌≡◌, ℕ, ◌+◌, ◌-◌, ◌*◌, ◌/◌, ◌%◌, ◌^◌, ◌<◌, ◌≤◌, ◌↔◌, List, [], ◌∷◌, ◌++◌, map, length}
+use Rattle.std.specs.Prelude.{pos, negsuc, ◌+ℤ◌, ◌≢◌, slice_index}
 use Rattle.bits.specs.Verdict.{accepted, declined, width_limited}
 use Rattle.bits.specs.Field.{field, held_bits}
 use Rattle.bits.specs.Read.{field_at, two_at, bit_by_bit, two_bit_by_bit, gathered_at, two_gathered_at}

@@ -1,6 +1,7 @@
 -- A run of delta fields, each added to a running number: how it is laid out, how it is read, and the numbers that it
 -- hands out.
-use Rattle.std.specs.Prelude.{ℕ, zero, suc, ◌+◌, ◌*◌, ◌%◌, ◌<◌, ◌≤◌, Bool, cond, ◌&&◌, List, [], ◌∷◌, ◌++◌, length, drop, ◌==◌, nat_le, slice_index}
+use Rattle.std.specs.Prelude.{ℕ, zero, suc, ◌+◌, ◌*◌, ◌%◌, ◌<◌, ◌≤◌, Bool, cond, ◌&&◌, List, [], ◌∷◌, ◌++◌, length}
+use Rattle.std.specs.Prelude.{drop, ◌==◌, nat_le, slice_index}
 use Rattle.bits.specs.Verdict.{Verdict, accepted, declined, and_then, mapped}
 use Rattle.bits.specs.Field.{field}
 use Rattle.bits.specs.Number.{Moves, ran_on, stepped_to}

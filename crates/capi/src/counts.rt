@@ -1,7 +1,8 @@
 // The counts of vertices and indices.
 ghost use Rattle.std.specs.Prelude.{◌≡◌};
 ghost use Rattle.bits.specs.Verdict.{mapped};
-ghost use Rattle.payload.specs.Count.{counted_says, vertex_count, index_count, cubemap_vertex_count, cubemap_index_count};
+ghost use Rattle.payload.specs.Count.{counted_says, vertex_count, index_count, cubemap_vertex_count};
+ghost use Rattle.payload.specs.Count.{cubemap_index_count};
 ghost use Rattle.capi.specs.Answer.{code_of, words_after, one};
 ghost use Rattle.capi.specs.Reply.{Says};
 

@@ -1,5 +1,5 @@
-// The C interface: every public call of `bits`, `payload`, `scene`, `display` and `alignment` as a function on numbers and
-// slices. `capi_c` makes C functions of them, and a Rattle crate can call them here.
+// The C interface: every public call of `bits`, `payload`, `scene`, `display` and `alignment` as a function on numbers
+// and slices. `capi_c` makes C functions of them, and a Rattle crate can call them here.
 //
 // A slice crosses as a pointer and the count of its items. A float in a buffer, among the words or as an answer is its
 // bits. A call answers an i64. One that is lent a slice of words answers

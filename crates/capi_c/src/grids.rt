@@ -44,7 +44,8 @@ pub extern "C" fn capi_sphere_indices_bounded(
     ensures words { words.new ≡ words_after words.old (mapped one
         (answer_for (in_items 1 (sphere_numbers rings sectors (sides top bottom left right))) (at_entry (out ∷ [])))) }
     ensures buffers { out.new ∷ []
-        ≡ buffers_after (in_items 1 (sphere_numbers rings sectors (sides top bottom left right))) (at_entry (out ∷ [])) }
+        ≡ buffers_after (in_items 1 (sphere_numbers rings sectors (sides top bottom left right)))
+        (at_entry (out ∷ [])) }
 {
     capi::grids::capi_sphere_indices_bounded(rings, sectors, top, bottom, left, right, out, words)
 }

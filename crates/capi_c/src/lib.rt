@@ -1,5 +1,5 @@
-// The C functions of `capi`, as a static library: each calls the function of `capi` with its name, in the module with its
-// name, and promises what that promises. What crosses, and how an answer is told, stands in crates/capi/src/lib.rt.
+// The C functions of `capi`, as a static library: each calls the function of `capi` with its name, in the module with
+// its name, and promises what that promises. What crosses, and how an answer is told, stands in crates/capi/src/lib.rt.
 #![tactic(auto)]
 
 mod alignment_calls;

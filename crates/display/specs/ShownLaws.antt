@@ -1,5 +1,6 @@
 -- The theorems about shown submeshes, by name. The proofs are in proofs/ShownProofs.antt.
-use Rattle.std.specs.Prelude.{ℕ, ◌+◌, ◌*◌, ◌/◌, ◌≤◌, ◌<◌, ◌≡◌, true, false, List, [], ◌∷◌, ◌++◌, ◌↔◌, length, get_or, drop}
+use Rattle.std.specs.Prelude.{ℕ, ◌+◌, ◌*◌, ◌/◌, ◌≤◌, ◌<◌, ◌≡◌, true, false, List, [], ◌∷◌, ◌++◌, ◌↔◌, length, get_or}
+use Rattle.std.specs.Prelude.{drop}
 use Rattle.bits.specs.Refusals.{among}
 use Rattle.bits.specs.Verdict.{accepted, declined}
 use Rattle.payload.specs.Firsts.{Distinct, Below}

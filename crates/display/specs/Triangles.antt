@@ -1,5 +1,6 @@
 -- The triangles of a drawing's submeshes: three point numbers each, submesh after submesh.
-use Rattle.std.specs.Prelude.{ℕ, ◌+◌, ◌-◌, ◌*◌, ◌/◌, ◌%◌, List, [], ◌∷◌, ◌++◌, map, Bool, true, ◌&&◌, cond, leb, eqb, length}
+use Rattle.std.specs.Prelude.{ℕ, ◌+◌, ◌-◌, ◌*◌, ◌/◌, ◌%◌, List, [], ◌∷◌, ◌++◌, map, Bool, true, ◌&&◌, cond, leb, eqb}
+use Rattle.std.specs.Prelude.{length}
 use Rattle.bits.specs.Verdict.{Verdict, accepted, declined}
 use Rattle.payload.specs.Fill.{each}
 use Rattle.payload.specs.MeshSpells.{sizes}

@@ -2,7 +2,8 @@
 -- from one vertex to another. `Winding` is the theorem about the index makers, `DrawnWinding` the same about what the
 -- scene call draws, and `WindingDecides` says what is ruled out by it. The proofs are in proofs/WindingProofs.antt and
 -- proofs/DecidesProofs.antt; docs/WINDING.md has a drawing.
-use Rattle.std.specs.Prelude.{ℕ, ◌+◌, ◌*◌, ◌≤◌, ◌<◌, ◌≡◌, ◌⊎◌, List, [], ◌∷◌, ◌++◌, true, false, ◌&&◌, cond, eqb, take, drop, set}
+use Rattle.std.specs.Prelude.{ℕ, ◌+◌, ◌*◌, ◌≤◌, ◌<◌, ◌≡◌, ◌⊎◌, List, [], ◌∷◌, ◌++◌, true, false, ◌&&◌, cond, eqb, take}
+use Rattle.std.specs.Prelude.{drop, set}
 use Rattle.std.specs.Float.Ieee.{lt}
 use Rattle.bits.specs.Verdict.{accepted}
 use Rattle.payload.specs.Float.{f0}

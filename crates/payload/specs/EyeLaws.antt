@@ -36,4 +36,5 @@ pub record EyeLaws : Type 0 where
       → read_meshes s ≡ declined 6
   -- and a fault of the first or the second mesh comes before a third one
   pub earlier_first : (s : List ℕ) (p k : ℕ) (l : List Mesh) → BoxesUpTo s 0 p l → length l < 2 → WholeBox s p
-      → type_at s p ≡ mesh_type → read_mesh (part s (body_at s p) (end_at s p)) ≡ declined k → read_meshes s ≡ declined k
+      → type_at s p ≡ mesh_type → read_mesh (part s (body_at s p) (end_at s p)) ≡ declined k
+      → read_meshes s ≡ declined k

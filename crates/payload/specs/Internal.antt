@@ -1,5 +1,6 @@
 -- What the contracts of private functions of the mesh reader cite. No promise of a public call leans on these.
-use Rattle.std.specs.Prelude.{◌≡◌, ℕ, zero, suc, ◌+◌, ◌*◌, ◌<◌, ◌≤◌, cond, List, [], ◌∷◌, length, ◌==◌, nat_le, slice_index}
+use Rattle.std.specs.Prelude.{◌≡◌, ℕ, zero, suc, ◌+◌, ◌*◌, ◌<◌, ◌≤◌, cond, List, [], ◌∷◌, length, ◌==◌, nat_le}
+use Rattle.std.specs.Prelude.{slice_index}
 use Rattle.bits.specs.Verdict.{Verdict, accepted, needs, declined, mapped}
 use Rattle.bits.specs.Field.{field}
 use Rattle.bits.specs.Number.{width_of}
@@ -247,7 +248,8 @@ pub record Expanded (s numbers : List ℕ) (base n : ℕ) (words : List ℕ) (ex
 
 -- some points' vertices are expanded there
 abbrev pub PointsExpanded : List ℕ → ℕ → List ℕ → Type 0
-PointsExpanded words expanded points = (i : ℕ) → i < length points → expanded + 5 * slice_index points i + 5 ≤ length words
+PointsExpanded words expanded points =
+    (i : ℕ) → i < length points → expanded + 5 * slice_index points i + 5 ≤ length words
 
 -- some points are below m
 abbrev pub PointsBelow : ℕ → List ℕ → Type 0

@@ -22,7 +22,8 @@ float_of z = of_int binary32 (to_z w8 (of_z w8 z))
 
 -- nine codes that make the floats of a face
 abbrev pub Makes : List ℤ → ℕ → Type 0
-Makes codes face = (k : ℕ) → k < 9 → float_of (slice_index_or codes k (pos 0)) ≡ slice_index_or face_table (face * 9 + k) nan
+Makes codes face =
+    (k : ℕ) → k < 9 → float_of (slice_index_or codes k (pos 0)) ≡ slice_index_or face_table (face * 9 + k) nan
 
 abbrev pub axis_of : ℕ → ℕ → Axis
 axis_of face axis = record { centre = centre face axis; right = right face axis; up = up face axis }

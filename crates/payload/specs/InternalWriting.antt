@@ -1,7 +1,8 @@
 -- What the contracts of the mesh writer's private functions cite: bits on their way into a buffer, and tables judged
 -- row by row. No promise
 -- of a public call leans on these.
-use Rattle.std.specs.Prelude.{◌≡◌, ℕ, ◌+◌, ◌-◌, ◌*◌, ◌/◌, ◌%◌, ◌^◌, ◌<◌, ◌≤◌, Bool, false, cond, ◌&&◌, List, [], ◌∷◌, ◌++◌, length, ◌==◌, nat_le}
+use Rattle.std.specs.Prelude.{◌≡◌, ℕ, ◌+◌, ◌-◌, ◌*◌, ◌/◌, ◌%◌, ◌^◌, ◌<◌, ◌≤◌, Bool, false, cond, ◌&&◌, List, [], ◌∷◌}
+use Rattle.std.specs.Prelude.{◌++◌, length, ◌==◌, nat_le}
 use Rattle.std.proofs.lemmas.List.Edits.{sets}
 use Rattle.bits.specs.Verdict.{Verdict, accepted, declined}
 use Rattle.bits.specs.Number.{width_of}
@@ -56,7 +57,8 @@ rows_all_fit (t ∷ []) left = false
 
 -- the lengths of three tables are within the limits: n words, v coordinate numbers, k words of rows
 unfoldable pub counts_fit : ℕ → ℕ → ℕ → Bool
-counts_fit n v k = ((((nat_le 1 n && nat_le n 10000) && v % 5 == 0) && nat_le 1 (v / 5)) && nat_le (v / 5) 32000) && nat_le 1 k
+counts_fit n v k =
+    ((((nat_le 1 n && nat_le n 10000) && v % 5 == 0) && nat_le 1 (v / 5)) && nat_le (v / 5) 32000) && nat_le 1 k
 
 -- the box of k words of rows and q points need not be too long
 unfoldable pub lengths_fit : ℕ → ℕ → Bool

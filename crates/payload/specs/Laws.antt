@@ -60,7 +60,8 @@ abbrev pub CbmpReads : Type 0
 CbmpReads = Reads ℕ CbmpSpells cbmp_read
 
 abbrev pub CbmpWrites : Type 0
-CbmpWrites = Writes ℕ CbmpSpells (λ p s. cbmp_read s ≡ accepted p) (λ p. p < 2 ^ 32) cbmp_written (λ p s. PlainBytes 12 s)
+CbmpWrites =
+    Writes ℕ CbmpSpells (λ p s. cbmp_read s ≡ accepted p) (λ p. p < 2 ^ 32) cbmp_written (λ p s. PlainBytes 12 s)
 
 -- ---- kind 2
 

@@ -64,9 +64,11 @@ pub record MeshMarked : Type 0 where
   -- a third mesh: before what its body holds and what follows, but after its size and after the boxes before it
   pub third : read_meshes (two_meshes ++ one_box) ≡ declined 18
   pub third_damaged : read_meshes (two_meshes ++ slice_set one_box 11 0x00) ≡ declined 18
-  pub third_empty : read_meshes (two_meshes ++ (0x00 ∷ 0x00 ∷ 0x00 ∷ 0x08 ∷ 0x6D ∷ 0x65 ∷ 0x73 ∷ 0x68 ∷ [])) ≡ declined 18
+  pub third_empty : read_meshes (two_meshes ++ (0x00 ∷ 0x00 ∷ 0x00 ∷ 0x08 ∷ 0x6D ∷ 0x65 ∷ 0x73 ∷ 0x68 ∷ []))
+      ≡ declined 18
   pub third_before_size : read_meshes (two_meshes ++ (one_box ++ (0 ∷ 0 ∷ 0 ∷ 0 ∷ 0 ∷ 0 ∷ 0 ∷ 0 ∷ []))) ≡ declined 18
-  pub third_sized : read_meshes (two_meshes ++ (0x00 ∷ 0x00 ∷ 0x00 ∷ 0x07 ∷ 0x6D ∷ 0x65 ∷ 0x73 ∷ 0x68 ∷ [])) ≡ declined 6
+  pub third_sized : read_meshes (two_meshes ++ (0x00 ∷ 0x00 ∷ 0x00 ∷ 0x07 ∷ 0x6D ∷ 0x65 ∷ 0x73 ∷ 0x68 ∷ []))
+      ≡ declined 6
   pub third_past : read_meshes (two_meshes ++ take 39 one_box) ≡ declined 6
   pub third_after : read_meshes (one_box ++ (slice_set one_box 11 0x00 ++ one_box)) ≡ declined 7
   -- a box of another type between them does not count

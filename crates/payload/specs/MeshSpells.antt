@@ -1,5 +1,6 @@
 -- Kind 2: how a mesh list spells a payload, place by place. What is free is not mentioned.
-use Rattle.std.specs.Prelude.{◌≡◌, ℕ, ◌+◌, ◌*◌, ◌/◌, ◌<◌, ◌≤◌, Bool, cond, List, [], ◌∷◌, length, ◌==◌, ◌≢◌, slice_index, slice_range}
+use Rattle.std.specs.Prelude.{◌≡◌, ℕ, ◌+◌, ◌*◌, ◌/◌, ◌<◌, ◌≤◌, Bool, cond, List, [], ◌∷◌, length, ◌==◌, ◌≢◌}
+use Rattle.std.specs.Prelude.{slice_index, slice_range}
 use Rattle.bits.specs.Field.{field}
 use Rattle.bits.specs.Number.{width_of}
 use Rattle.payload.specs.Float.{AllFinite}

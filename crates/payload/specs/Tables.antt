@@ -59,7 +59,10 @@ table_lengths_says (M.Declined k) = declined k
 -- the lengths of its tables, and the tables
 abbrev pub tables_of : Mesh → Plan TableLengths
 tables_of x =
-    record { answer = table_lengths x; lists = pool_table x ∷ coordinate_table x ∷ submesh_table x ∷ point_table x ∷ [] }
+    record {
+      answer = table_lengths x;
+      lists = pool_table x ∷ coordinate_table x ∷ submesh_table x ∷ point_table x ∷ [];
+    }
 
 abbrev pub tables_plan : List ℕ → Verdict (Plan TableLengths)
 tables_plan s = mapped tables_of (body_read s)

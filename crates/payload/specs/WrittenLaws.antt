@@ -42,4 +42,5 @@ CbmpWritesInto = (p : ℕ) → p < 2 ^ 32 → WritesInto (CbmpSpells p) (cbmp_wr
 abbrev pub MeshWritesInto : Type 0
 MeshWritesInto =
     (pool coordinates rows points : List ℕ) → Words32 pool
-    → WritesInto (MeshesSpell (tables_mesh pool coordinates rows points ∷ [])) (mesh_written pool coordinates rows points)
+    → WritesInto (MeshesSpell (tables_mesh pool coordinates rows points ∷ []))
+    (mesh_written pool coordinates rows points)

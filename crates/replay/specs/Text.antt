@@ -1,5 +1,6 @@
 -- What the tokens of a line spell.
-use Rattle.std.specs.Prelude.{ℕ, ◌+◌, ◌-◌, ◌*◌, ◌^◌, ◌==◌, cond, ◌&&◌, List, [], ◌∷◌, length, take, drop, nat_le, nat_lt}
+use Rattle.std.specs.Prelude.{ℕ, ◌+◌, ◌-◌, ◌*◌, ◌^◌, ◌==◌, cond, ◌&&◌, List, [], ◌∷◌, length, take, drop, nat_le}
+use Rattle.std.specs.Prelude.{nat_lt}
 use Rattle.std.specs.List.{position_or_len}
 use Rattle.replay.specs.declared.text.Hex.{Hex}
 use Rattle.replay.specs.declared.text.Hex.TheVariants as H
@@ -14,7 +15,8 @@ index_of b s = position_or_len (λ x. x == b) s
 
 -- the value of a digit, 0 to 9 and a to f, and 16 of any other byte
 unfoldable pub digit_of : ℕ → ℕ
-digit_of b = cond (nat_lt b 48) 16 (cond (nat_le b 57) (b - 48) (cond (nat_lt b 97) 16 (cond (nat_le b 102) (b - 87) 16)))
+digit_of b =
+    cond (nat_lt b 48) 16 (cond (nat_le b 57) (b - 48) (cond (nat_lt b 97) 16 (cond (nat_le b 102) (b - 87) 16)))
 
 -- v with the digits of a list after it, where they are digits and the number is below 2^64
 unfoldable pub hex_from : ℕ → List ℕ → Hex

@@ -4,7 +4,8 @@
 
 ghost use Rattle.std.specs.Prelude.{◌≡◌};
 ghost use Rattle.bits.specs.Verdict.{mapped};
-ghost use Rattle.payload.specs.Count.{counted_says, vertex_count, index_count, cubemap_vertex_count, cubemap_index_count};
+ghost use Rattle.payload.specs.Count.{counted_says, vertex_count, index_count, cubemap_vertex_count};
+ghost use Rattle.payload.specs.Count.{cubemap_index_count};
 ghost use Rattle.bits.specs.Verdict.{limited};
 ghost use Rattle.payload.specs.MeshRead.{read_meshes};
 ghost use Rattle.payload.specs.MeshDrawing.{point_total};
