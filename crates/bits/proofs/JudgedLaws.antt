@@ -1,12 +1,11 @@
 -- What judging a run learns field by field: one field of the running number whose turn it is, and five at once. Assumes nothing.
-use Rattle.std.proofs.Common.{◌≡◌, ℕ, zero, suc, ◌+◌, ◌-◌, ◌*◌, ◌<◌, ◌≤◌, true, false, ◌⊎◌, List, [], ◌∷◌, ◌++◌, length, sym, refl, ap, ◌∙◌, inl, inr, mul_assoc, mul_comm, add-mul, arith, ltb-true, lt-ltb}
+use Rattle.std.proofs.Common.{◌≡◌, ℕ, zero, suc, ◌+◌, ◌-◌, ◌*◌, ◌<◌, ◌≤◌, true, false, ◌⊎◌, List, [], ◌∷◌, ◌++◌, length, sym, refl, ap, ◌∙◌, inl, inr, mul-suc, add-one, add-mul, arith, ltb-true, lt-ltb}
 use Rattle.bits.specs.Verdict.{Verdict, accepted, needs, declined, limited}
 use Rattle.bits.specs.Field.{field}
 use Rattle.bits.specs.Number.{stepped_to, width_of}
 use Rattle.bits.specs.Run.{Found, in_front, read_run, judged, low16}
 use Rattle.bits.specs.Internal.{Inside, five, all_below, five_low}
 use Rattle.bits.specs.declared.fields.runs.Five.{Five}
-use Rattle.bits.specs.declared.fields.runs.Moved.{Moved}
 use Rattle.bits.proofs.VerdictLaws.{le-or-lt, clash, both_true, limited_yes, limited_no}
 use Rattle.bits.proofs.FieldLaws.{field_below}
 use Rattle.bits.proofs.NumberLaws.{stepped_in, stepped_out, width_least}
@@ -22,6 +21,14 @@ group_inside g n w p l h =
       record { short = h.short; low = h.low; whole = omega (arith, h.whole) },
       record { short = h.short; low = omega (arith, h.low); whole = omega (arith, h.whole) },
     )
+
+-- where i groups of g fields are behind, the next lies inside, and so do those after it
+pub next_group : {s : List ℕ} (g n i w p : ℕ) → g * (i + 1) ≤ n → Inside s p ((n - g * i) * w)
+    → Inside s p (g * w) × Inside s (p + g * w) ((n - g * (i + 1)) * w)
+next_group g n i w p l h =
+    let m : g * (i + 1) ≡ g * i + g = ap (λ (k : ℕ). g * k) (add-one i) ∙ mul-suc g i in
+    let y : n - g * i - g ≡ n - g * (i + 1) = omega arith in
+    rw y at (group_inside g (n - g * i) w p (omega arith) h)
 
 -- ---- the next field
 
@@ -77,11 +84,7 @@ module _ (s : List ℕ) (w limit n p x a b : ℕ) (hw : w ≤ 17) (hl : limit �
 
 -- ---- the next five, of five running numbers
 
--- five numbers as a list
-abbrev pub moved_list : Moved → List ℕ
-moved_list r = r.a ∷ r.b ∷ r.c ∷ r.d ∷ r.e ∷ []
-
-module _ (limit : ℕ) (r : Moved) where
+module _ (limit : ℕ) (r : Five ℕ) where
   -- all are below the limit, or one is the first that is not
   pub all_below_law : all_below limit r ≡ true → (r.a < limit) × (r.b < limit) × (r.c < limit) × (r.d < limit) × (r.e < limit)
   all_below_law e =
@@ -91,7 +94,7 @@ module _ (limit : ℕ) (r : Moved) where
       let t₁ = both_true _ _ t₂.0 in
       (ltb-true _ _ t₁.0, ltb-true _ _ t₁.1, ltb-true _ _ t₂.1, ltb-true _ _ t₃.1, ltb-true _ _ t₄.1)
 
-  pub five_low_law : all_below limit r ≡ true → limit ≤ 65536 → five_low r ≡ moved_list r
+  pub five_low_law : all_below limit r ≡ true → limit ≤ 65536 → five_low r ≡ five r
   five_low_law e h =
       let l = all_below_law e in
       let ea : low16 r.a ≡ r.a = omega (arith, l.0) in
@@ -101,7 +104,7 @@ module _ (limit : ℕ) (r : Moved) where
       let ee : low16 r.e ≡ r.e = omega (arith, l.4) in
       (λ i. ea i ∷ eb i ∷ ec i ∷ ed i ∷ ee i ∷ [])
 
-module _ (s : List ℕ) (w limit n p : ℕ) (v : Five) (r : Moved) (hw : w ≤ 17) (hl : limit ≤ 65536) (o : 5 ≤ n)
+module _ (s : List ℕ) (w limit n p : ℕ) (v r : Five ℕ) (hw : w ≤ 17) (hl : limit ≤ 65536) (o : 5 ≤ n)
     (h : p + 5 * w ≤ 8 * length s) (k : FiveTo s w p v r) where
   abbrev Answer : ℕ → ℕ → List ℕ → Verdict (Unit {0})
   Answer n p prior = judged (read_run s w limit n p prior)
@@ -122,7 +125,7 @@ module _ (s : List ℕ) (w limit n p : ℕ) (v : Five) (r : Moved) (hw : w ≤ 1
           to₄ : Answer n p (five v) ≡ Answer (n - 1 - 1 - 1 - 1) (p + w + w + w + w) (v.e ∷ r.a ∷ r.b ∷ r.c ∷ r.d ∷ [])
           to₄ = to₃ ∙ field_on s w limit hw hl (n - 1 - 1 - 1) (p + w + w + w) v.d (v.e ∷ r.a ∷ r.b ∷ r.c ∷ []) r.d (omega arith) (omega arith) k.fourth ld
 
-          to₅ : r.e < limit → Answer n p (five v) ≡ Answer (n - 5) (p + 5 * w) (moved_list r)
+          to₅ : r.e < limit → Answer n p (five v) ≡ Answer (n - 5) (p + 5 * w) (five r)
           to₅ l =
               let z : n - 1 - 1 - 1 - 1 - 1 ≡ n - 5 = omega arith in
               let y : p + w + w + w + w + w ≡ p + 5 * w = omega arith in
@@ -180,6 +183,3 @@ module _ (s : List ℕ) (w limit n p : ℕ) (prior : List ℕ) where
 -- a limit in 16 bits asks for at most 17 bits
 pub width_most : (limit : ℕ) → limit < 65536 → width_of limit ≤ 17
 width_most limit h = width_least limit 17 (omega arith)
-
-pub fives_bits : (n w : ℕ) → 5 * n * w ≡ n * (5 * w)
-fives_bits n w = ap (λ (k : ℕ). k * w) (mul_comm 5 n) ∙ mul_assoc n 5 w

@@ -1,5 +1,6 @@
 -- The laws of the definitions in specs/, which the functions' proofs and the crates above cite.
 pub mod VerdictLaws
+pub mod SaysLaws
 pub mod FieldLaws
 pub mod ByteLaws
 pub mod ReadLaws

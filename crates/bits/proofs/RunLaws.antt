@@ -8,9 +8,7 @@ use Rattle.bits.proofs.NumberLaws.{ran_moves, moves_ran}
 use Rattle.bits.proofs.VerdictLaws.{clash, tested_value, then_value}
 use Rattle.bits.specs.Run.{RunSpells, Found, complete, shift, next_of, in_front, read_run}
 use Rattle.bits.specs.Internal.{FieldsAt, MovedBy}
-use Rattle.bits.specs.declared.fields.runs.Fields.{Fields}
 use Rattle.bits.specs.declared.fields.runs.Five.{Five}
-use Rattle.bits.specs.declared.fields.runs.Moved.{Moved}
 
 -- ---- fields that are to be complete
 
@@ -152,14 +150,14 @@ module _ (s : List ℕ) (w limit : ℕ) where
 -- ---- five fields at once
 
 -- the five fields from bit p on take the numbers v to the numbers r
-pub record FiveTo (s : List ℕ) (w p : ℕ) (v : Five) (r : Moved) : Type 0 where
+pub record FiveTo (s : List ℕ) (w p : ℕ) (v r : Five ℕ) : Type 0 where
   pub first : r.a ≡ stepped_to v.a (field s p w)
   pub second : r.b ≡ stepped_to v.b (field s (p + w) w)
   pub third : r.c ≡ stepped_to v.c (field s (p + w + w) w)
   pub fourth : r.d ≡ stepped_to v.d (field s (p + w + w + w) w)
   pub fifth : r.e ≡ stepped_to v.e (field s (p + w + w + w + w) w)
 
-pub five-to : {s : List ℕ} {w p : ℕ} {f : Fields} {v : Five} {r : Moved} → FieldsAt s w p f → MovedBy f v r → FiveTo s w p v r
+pub five-to : {s : List ℕ} {w p : ℕ} {f v r : Five ℕ} → FieldsAt s w p f → MovedBy f v r → FiveTo s w p v r
 five-to {v = v} q m =
     record {
       first = m.first ∙ ap (stepped_to v.a) q.first;

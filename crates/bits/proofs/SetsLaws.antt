@@ -19,9 +19,6 @@ sets_whole l d e =
     ∙ ap (λ (t : List ℕ). l ++ t) (drop_of_length-le d {i = 0 + length l} (omega arith))
     ∙ append-nil l
 
-pub set-two : (d : List ℕ) (o x₁ x₂ : ℕ) → set (set d o x₁) (o + 1) x₂ ≡ sets d o (x₁ ∷ x₂ ∷ [])
-set-two d o x₁ x₂ = let e₁ : o + 1 ≡ suc o = omega arith in rw e₁
-
 pub set-five : (d : List ℕ) (o x₁ x₂ x₃ x₄ x₅ : ℕ)
     → set (set (set (set (set d o x₁) (o + 1) x₂) (o + 2) x₃) (o + 3) x₄) (o + 4) x₅
     ≡ sets d o (x₁ ∷ x₂ ∷ x₃ ∷ x₄ ∷ x₅ ∷ [])

@@ -7,7 +7,6 @@ use Rattle.bits.specs.Number.{stepped_to}
 use Rattle.bits.specs.Run.{shift, read_run, last_of, low16, summed}
 use Rattle.bits.specs.Internal.{five, five_low}
 use Rattle.bits.specs.declared.fields.runs.Five.{Five}
-use Rattle.bits.specs.declared.fields.runs.Moved.{Moved}
 use Rattle.bits.proofs.NumberLaws.{ran_moves, moves_stepped}
 use Rattle.bits.proofs.RunLaws.{run_first, FiveTo}
 use Rattle.bits.proofs.SetsLaws.{sets-after, sets_whole}
@@ -41,7 +40,7 @@ module _ (s : List ℕ) (w : ℕ) where
       ∙ rw (z, y)
 
   -- five fields of five running numbers
-  pub summed_five : (n p : ℕ) (v : Five) (r : Moved) → 5 ≤ n → FiveTo s w p v r
+  pub summed_five : (n p : ℕ) (v r : Five ℕ) → 5 ≤ n → FiveTo s w p v r
       → summed s w n p (five v) ≡ five_low r ++ summed s w (n - 5) (p + 5 * w) (five_low r)
   summed_five n p v r o k =
       let a = low16 r.a in
@@ -59,7 +58,7 @@ module _ (s : List ℕ) (w : ℕ) where
       ∙ rw (z, y)))))
 
   -- and with the numbers that were kept
-  pub summed_kept : (n p : ℕ) (v : Five) (r : Moved) (u : Five) → 5 ≤ n → FiveTo s w p v r → five u ≡ five_low r
+  pub summed_kept : (n p : ℕ) (v r u : Five ℕ) → 5 ≤ n → FiveTo s w p v r → five u ≡ five_low r
       → summed s w n p (five v) ≡ five u ++ summed s w (n - 5) (p + 5 * w) (five u)
   summed_kept n p v r u o k e = summed_five n p v r o k ∙ ap (λ (l : List ℕ). l ++ summed s w (n - 5) (p + 5 * w) l) (sym e)
 

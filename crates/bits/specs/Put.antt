@@ -1,22 +1,20 @@
 -- What a lent buffer holds after a word or a field was put into it, and what the call says. `sets s i l` is s with the
 -- list l stored from place i on.
 use Rattle.std.specs.Prelude.{ℕ, zero, suc, ◌+◌, ◌-◌, ◌*◌, ◌/◌, ◌%◌, ◌^◌, cond, ◌&&◌, List, [], ◌∷◌, ◌++◌, length}
-use Rattle.std.specs.Prelude.{nat_le}
+use Rattle.std.specs.Prelude.{nat_le, Result}
 use Rattle.std.proofs.lemmas.List.Edits.{sets}
-use Rattle.bits.specs.Verdict.{Verdict, accepted, needs, declined, within, width_limited}
+use Rattle.bits.specs.Verdict.{Verdict, needs, within, width_limited}
 use Rattle.bits.specs.Field.{field, capped}
-use Rattle.bits.specs.declared.put.Put.{Put}
-use Rattle.bits.specs.declared.put.Put.TheVariants as P
+use Rattle.bits.specs.Says.{fill_says}
+use Rattle.bits.specs.declared.refusals.FillError.{FillError}
 
 -- the n low bytes of x, big end first
 unfoldable pub bytes_of : ℕ → ℕ → List ℕ
 bytes_of zero x = []
 bytes_of (suc n) x = bytes_of n (x / 256) ++ (x % 256 ∷ [])
 
-abbrev pub put_says : Put → Verdict (Unit {0})
-put_says P.Done = accepted tt
-put_says (P.Needs n) = needs (n ∷ [])
-put_says P.TooWide = declined 16
+abbrev pub put_says : Result (Unit {0}) (FillError ℕ) → Verdict (Unit {0})
+put_says r = fill_says (λ u. u) (λ n. n ∷ []) r
 
 -- ---- a word at byte p
 

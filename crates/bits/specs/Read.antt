@@ -1,18 +1,13 @@
 -- What reading at a place gives: the value and the place after it, or 3, too few bytes or bits; of a field, before
 -- that, 16, a width above 32. And what each answer says.
-use Rattle.std.specs.Prelude.{ℕ, zero, suc, ◌+◌, ◌-◌, ◌*◌, ◌/◌, ◌%◌, ◌^◌, cond, List, length, nat_le}
+use Rattle.std.specs.Prelude.{ℕ, zero, suc, ◌+◌, ◌-◌, ◌*◌, ◌/◌, ◌%◌, ◌^◌, cond, List, length, nat_le, Result}
 use Rattle.bits.specs.Verdict.{Verdict, accepted, declined, within, width_limited, and_then, mapped}
 use Rattle.bits.specs.Field.{bit_at, field, room, gathered}
-use Rattle.bits.specs.declared.bytes.ByteRead.{ByteRead}
-use Rattle.bits.specs.declared.bytes.ByteRead.TheVariants as B
-use Rattle.bits.specs.declared.bytes.WordRead.{WordRead}
-use Rattle.bits.specs.declared.bytes.WordRead.TheVariants as W
-use Rattle.bits.specs.declared.bytes.Seek.{Seek}
-use Rattle.bits.specs.declared.bytes.Seek.TheVariants as S
-use Rattle.bits.specs.declared.fields.FieldRead.{FieldRead}
-use Rattle.bits.specs.declared.fields.FieldRead.TheVariants as F
-use Rattle.bits.specs.declared.fields.TwoRead.{TwoRead}
-use Rattle.bits.specs.declared.fields.TwoRead.TheVariants as T
+use Rattle.bits.specs.Says.{says}
+use Rattle.bits.specs.declared.refusals.Refusal.{Refusal}
+use Rattle.bits.specs.declared.bytes.ByteCursor.{ByteCursor}
+use Rattle.bits.specs.declared.fields.BitCursor.{BitCursor}
+use Rattle.bits.specs.declared.fields.Two.{Two}
 
 -- the number of n bytes, big end first, from byte p on
 abbrev pub number_at : ℕ → List ℕ → ℕ → Verdict (ℕ × ℕ)
@@ -55,24 +50,18 @@ two_gathered_at s p w =
 abbrev pub place_in : List ℕ → ℕ → Verdict ℕ
 place_in s p = within p (length s) p (declined 3)
 
-abbrev pub byte_says : ByteRead → Verdict (ℕ × ℕ)
-byte_says (B.Value v c) = accepted (v, c.at)
-byte_says B.Short = declined 3
+-- a byte or a word, and the place after it
+abbrev pub value_says : Result (ℕ × ByteCursor) Refusal → Verdict (ℕ × ℕ)
+value_says r = says (λ x. (x.0, x.1.at)) r
 
-abbrev pub word_says : WordRead → Verdict (ℕ × ℕ)
-word_says (W.Value v c) = accepted (v, c.at)
-word_says W.Short = declined 3
+abbrev pub seek_says : Result ByteCursor Refusal → Verdict ℕ
+seek_says r = says (λ c. c.at) r
 
-abbrev pub field_says : FieldRead → Verdict (ℕ × ℕ)
-field_says (F.Value v c) = accepted (v, c.bit)
-field_says F.Short = declined 3
-field_says F.TooWide = declined 16
+abbrev pub field_says : Result (ℕ × BitCursor) Refusal → Verdict (ℕ × ℕ)
+field_says r = says (λ x. (x.0, x.1.bit)) r
 
-abbrev pub two_says : TwoRead → Verdict (ℕ × ℕ × ℕ)
-two_says (T.Values a b c) = accepted (a, b, c.bit)
-two_says T.Short = declined 3
-two_says T.TooWide = declined 16
+abbrev pub two_read : Two × BitCursor → ℕ × ℕ × ℕ
+two_read x = (x.0.a, x.0.b, x.1.bit)
 
-abbrev pub seek_says : Seek → Verdict ℕ
-seek_says (S.To c) = accepted c.at
-seek_says S.Short = declined 3
+abbrev pub two_says : Result (Two × BitCursor) Refusal → Verdict (ℕ × ℕ × ℕ)
+two_says r = says two_read r

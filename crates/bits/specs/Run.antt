@@ -1,12 +1,12 @@
 -- A run of delta fields, each added to a running number: how it is laid out, how it is read, and the numbers that it
 -- hands out.
 use Rattle.std.specs.Prelude.{ℕ, zero, suc, ◌+◌, ◌*◌, ◌%◌, ◌<◌, ◌≤◌, Bool, cond, ◌&&◌, List, [], ◌∷◌, ◌++◌, length}
-use Rattle.std.specs.Prelude.{drop, ◌==◌, nat_le, slice_index}
+use Rattle.std.specs.Prelude.{drop, ◌==◌, nat_le, slice_index, Result}
 use Rattle.bits.specs.Verdict.{Verdict, accepted, declined, and_then, mapped}
 use Rattle.bits.specs.Field.{field}
 use Rattle.bits.specs.Number.{Moves, ran_on, stepped_to}
-use Rattle.bits.specs.declared.fields.runs.RunCheck.{RunCheck}
-use Rattle.bits.specs.declared.fields.runs.RunCheck.TheVariants as R
+use Rattle.bits.specs.Says.{says}
+use Rattle.bits.specs.declared.refusals.Refusal.{Refusal}
 
 -- so many running numbers at their start
 abbrev pub zeros : ℕ → List ℕ
@@ -57,9 +57,8 @@ read_run s w limit (suc n) p prior =
 abbrev pub judged : {A : Type 0} → Verdict A → Verdict (Unit {0})
 judged v = mapped (λ _. tt) v
 
-abbrev pub check_says : RunCheck → Verdict (Unit {0})
-check_says R.Good = accepted tt
-check_says (R.Declined k) = declined k
+abbrev pub check_says : Result (Unit {0}) Refusal → Verdict (Unit {0})
+check_says r = says (λ u. u) r
 
 -- ---- handing out the numbers of a run that was judged before
 

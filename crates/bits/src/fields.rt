@@ -3,32 +3,18 @@ mod runs;
 
 ghost use Rattle.std.specs.Prelude.{◌≡◌, ◌+◌, ◌-◌, ◌*◌, ◌/◌, ◌%◌, ◌^◌, ◌<◌, ◌≤◌, length};
 ghost use Rattle.bits.specs.Field.{field, capped, room, whole_bytes};
-ghost use Rattle.bits.specs.Read.{field_at, field_says, two_at, two_says};
+ghost use Rattle.bits.specs.Verdict.{accepted};
+ghost use Rattle.bits.specs.Read.{field_at, field_says, two_at, two_read, two_says};
 ghost use Rattle.bits.specs.Internal.{Inside, BitsBefore};
 
 use super::bytes::word_of;
-pub use runs::{Run, RunCheck, check_fives, check_run, fill_fives, fill_run};
+use super::refusals::Refusal;
+pub use runs::{Run, check_fives, check_run, fill_fives, fill_run};
 
 // A place in a slice, counted in bits from the high bit of byte 0. It may lie past the end.
 #[derive(Clone, Copy)]
 pub struct BitCursor {
     pub bit: usize,
-}
-
-// A field and the place after it, too few bits, or a width above 32.
-#[derive(Clone, Copy)]
-pub enum FieldRead {
-    Value(u32, BitCursor),
-    Short,
-    TooWide,
-}
-
-// Two neighbouring fields and the place after both, too few bits for both, or a width above 32.
-#[derive(Clone, Copy)]
-pub enum TwoRead {
-    Values(u32, u32, BitCursor),
-    Short,
-    TooWide,
 }
 
 // How many bits of s a cursor can name.
@@ -73,10 +59,8 @@ fn first_bytes(s: &[u8], n: usize) -> u64
     ensures { (result ≡ whole_bytes s.now 0 n) × (result ≡ field s.now 0 (8 * n)) }
 {
     let mut x: u64 = 0;
-    let mut i = 0;
-    while i < n {
+    for i in 0..n {
         x = x * 256 + wide(s[i]);
-        i += 1;
     }
     x
 }
@@ -113,9 +97,9 @@ fn low_bits(x: u64, w: u32) -> u32
 
 // Two neighbouring fields.
 #[derive(Clone, Copy)]
-struct Two {
-    a: u32,
-    b: u32,
+pub struct Two {
+    pub a: u32,
+    pub b: u32,
 }
 
 // Two neighbouring fields of at most 16 bits, out of the bits before the end of the second.
@@ -136,10 +120,9 @@ fn one_known(s: &[u8], bit: usize, width: u32) -> u32
 {
     let here = BitCursor { bit };
     match here.read(s, width) {
-        FieldRead::Value(value, _) => value,
+        Ok((value, _)) => value,
         // never: it is there, and no wider than 32 bits
-        FieldRead::Short => 0,
-        FieldRead::TooWide => 0,
+        Err(_) => 0,
     }
 }
 
@@ -162,18 +145,18 @@ fn two_inside(s: &[u8], bit: usize, width: u32) -> Two
     two_of(five_before(s, bit + 2 * (width as usize)), width)
 }
 
-// Two neighbouring fields, a window for each.
-fn two_windows(s: &[u8], bit: usize, width: u32) -> TwoRead
+// Two neighbouring fields, a window for each, and the place after them.
+fn two_windows(s: &[u8], bit: usize, width: u32) -> (Two, BitCursor)
     requires { (1 ≤ width) × (width ≤ 32) × (2 * width ≤ room s.now - bit) }
-    ensures { two_says result ≡ two_at s.now bit width }
+    ensures { accepted (two_read result) ≡ two_at s.now bit width }
 {
     let middle = bit + width as usize;
     let next = middle + width as usize;
-    TwoRead::Values(
-        low_bits(bits_before(s, middle), width),
-        low_bits(bits_before(s, next), width),
-        BitCursor { bit: next },
-    )
+    let both = Two {
+        a: low_bits(bits_before(s, middle), width),
+        b: low_bits(bits_before(s, next), width),
+    };
+    (both, BitCursor { bit: next })
 }
 
 impl BitCursor {
@@ -188,48 +171,47 @@ impl BitCursor {
     }
 
     // A field of width bits. The width is tested before anything is read.
-    pub fn read(self, s: &[u8], width: u32) -> FieldRead
+    pub fn read(self, s: &[u8], width: u32) -> Result<(u32, Self), Refusal>
         ensures { field_says result ≡ field_at s.now self.bit width }
     {
         if 32 < width {
-            return FieldRead::TooWide;
+            return Err(Refusal::FieldWidth); // wherever the place is
         }
         let bit = self.bit;
         let size = width as usize;
         if width == 0 {
-            return FieldRead::Value(0, BitCursor { bit });
+            return Ok((0, self));
         }
         if bits_left(s, bit) < size {
-            return FieldRead::Short;
+            return Err(Refusal::TooFewBytes);
         }
         let next = bit + size;
-        FieldRead::Value(
+        Ok((
             low_bits(bits_before(s, next), width),
             BitCursor { bit: next },
-        )
+        ))
     }
 
     // Two neighbouring fields of width bits each. Up to 16 bits they come out of one window.
-    pub fn read_two(self, s: &[u8], width: u32) -> TwoRead
+    pub fn read_two(self, s: &[u8], width: u32) -> Result<(Two, Self), Refusal>
         ensures { two_says result ≡ two_at s.now self.bit width }
     {
         if 32 < width {
-            return TwoRead::TooWide;
+            return Err(Refusal::FieldWidth); // of either field
         }
         let bit = self.bit;
         if width == 0 {
-            return TwoRead::Values(0, 0, BitCursor { bit });
+            return Ok((Two { a: 0, b: 0 }, self));
         }
         let size = width as usize;
         if bits_left(s, bit) < 2 * size {
-            return TwoRead::Short;
+            return Err(Refusal::TooFewBytes);
         }
         if 16 < width {
-            return two_windows(s, bit, width);
+            return Ok(two_windows(s, bit, width));
         }
         let next = bit + 2 * size;
-        let f = two_of(bits_before(s, next), width);
-        TwoRead::Values(f.a, f.b, BitCursor { bit: next })
+        Ok((two_of(bits_before(s, next), width), BitCursor { bit: next }))
     }
 
     // The next place where a byte begins, or the same; the largest place where that is larger.

@@ -9,12 +9,12 @@ mod floats;
 mod headers;
 mod numbers;
 mod put;
+mod refusals;
 
-pub use bytes::{ByteCursor, ByteRead, Seek, WordRead, word_of};
-pub use fields::{
-    BitCursor, FieldRead, Run, RunCheck, TwoRead, check_fives, check_run, fill_fives, fill_run,
-};
+pub use bytes::{ByteCursor, word_of};
+pub use fields::{BitCursor, Run, Two, check_fives, check_run, fill_fives, fill_run};
 pub use floats::{float_bits, nearest_f32, scale};
 pub use headers::{BoxHeader, box_header};
-pub use numbers::{Running, bit_width, run_on, stepped, zigzag};
-pub use put::{Put, put_field, put_word};
+pub use numbers::{bit_width, run_on, stepped, zigzag};
+pub use put::{put_field, put_word};
+pub use refusals::{FillError, Refusal};

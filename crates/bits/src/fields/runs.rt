@@ -11,6 +11,7 @@ ghost use Rattle.bits.specs.Internal.{Inside, five, others, turns, at_start, Fie
 
 use super::{one_inside, one_known, two_inside};
 use crate::numbers::{bit_width, stepped};
+use crate::refusals::Refusal;
 
 // Where the first field stands, what the running numbers stay below, and how many fields there are, or how many fives
 // of fields. A field is as wide as `bit_width` of the limit.
@@ -19,13 +20,6 @@ pub struct Run {
     pub bit: usize,
     pub limit: u16,
     pub count: u32,
-}
-
-// The run is good, or the number of a refusal.
-#[derive(Clone, Copy)]
-pub enum RunCheck {
-    Good,
-    Declined(u8),
 }
 
 // The low 16 bits of a number.
@@ -37,28 +31,32 @@ fn low_half(x: u64) -> u16
 
 // ---- field by field, wherever the fields stand
 
-// Five running numbers, in the order in which their fields come.
+// Five of a kind, in the order in which their fields come: fields, running numbers, or where fields take running
+// numbers, in 64 bits. Below 0 those stand far above every limit.
 #[derive(Clone, Copy)]
-struct Five {
-    a: u16,
-    b: u16,
-    c: u16,
-    d: u16,
-    e: u16,
+struct Five<T> {
+    a: T,
+    b: T,
+    c: T,
+    d: T,
+    e: T,
 }
 
+// Five running numbers at their start.
+const START: Five<u16> = Five {
+    a: 0,
+    b: 0,
+    c: 0,
+    d: 0,
+    e: 0,
+};
+
 // The number that has moved waits at the back: alone, or behind the other four.
-fn turned(v: Five, alone: bool, number: u16) -> Five
-    ensures { turns alone result ≡ others alone v ++ (number ∷ []) }
+fn turned<const ALONE: bool>(v: Five<u16>, number: u16) -> Five<u16>
+    ensures { turns ALONE result ≡ others ALONE v ++ (number ∷ []) }
 {
-    if alone {
-        return Five {
-            a: number,
-            b: 0,
-            c: 0,
-            d: 0,
-            e: 0,
-        };
+    if ALONE {
+        return Five { a: number, ..v };
     }
     Five {
         a: v.b,
@@ -69,52 +67,45 @@ fn turned(v: Five, alone: bool, number: u16) -> Five
     }
 }
 
-// One running number over so many fields, or five, which take turns.
-fn check_turns(
+// One running number over so many fields, or five, which take turns. It stays out of its callers, whose fast way is
+// shorter for that.
+#[inline(never)]
+fn check_turns<const ALONE: bool>(
     s: &[u8],
     start: usize,
     limit: u16,
     count: usize,
     width: u32,
-    alone: bool,
-) -> RunCheck
+) -> Result<(), Refusal>
     requires { (length s.now ≤ 67108864) × (width ≤ 17) }
     ensures answer { check_says result
-        ≡ judged (read_run s.now width limit count start (at_start alone)) }
+        ≡ judged (read_run s.now width limit count start (at_start ALONE)) }
 {
     let end = s.len() * 8;
     let size = width as usize;
     let mut bit = start;
-    let mut v = Five {
-        a: 0,
-        b: 0,
-        c: 0,
-        d: 0,
-        e: 0,
-    };
-    let mut left = count;
-    while 0 < left {
+    let mut v = START;
+    for _ in 0..count {
         if end < bit {
-            return RunCheck::Declined(3);
+            return Err(Refusal::TooFewBytes);
         }
         if end - bit < size {
-            return RunCheck::Declined(3);
+            return Err(Refusal::TooFewBytes);
         }
         let number = stepped(v.a as u32, one_known(s, bit, width));
         if limit as u64 <= number {
-            return RunCheck::Declined(8);
+            return Err(Refusal::RunningNumber);
         }
-        v = turned(v, alone, number as u16);
+        v = turned::<ALONE>(v, number as u16);
         bit += size;
-        left -= 1;
     }
-    RunCheck::Good
+    Ok(())
 }
 
 // ---- one running number
 
 // A run of whole pairs of fields, which are all there, from any running number on.
-fn check_pairs(s: &[u8], run: Run, width: u32, from: u16) -> RunCheck
+fn check_pairs(s: &[u8], run: Run, width: u32, from: u16) -> Result<(), Refusal>
     requires inside { Inside s.now run.bit (run.count * width) }
     requires width_bound { (width ≤ 16) × (run.count % 2 ≡ 0) }
     ensures answer { check_says result
@@ -123,26 +114,24 @@ fn check_pairs(s: &[u8], run: Run, width: u32, from: u16) -> RunCheck
     let limit = run.limit as u64;
     let mut bit = run.bit;
     let mut last = from;
-    let mut left = run.count;
-    while 0 < left {
+    for _ in 0..run.count / 2 {
         let f = two_inside(s, bit, width);
         let a = stepped(last as u32, f.a);
         if limit <= a {
-            return RunCheck::Declined(8);
+            return Err(Refusal::RunningNumber);
         }
         let b = stepped(a as u32, f.b);
         if limit <= b {
-            return RunCheck::Declined(8);
+            return Err(Refusal::RunningNumber);
         }
         last = b as u16;
         bit += 2 * (width as usize);
-        left -= 2;
     }
-    RunCheck::Good
+    Ok(())
 }
 
 // A run whose fields are all there: of an odd number the first alone, then two at a time.
-fn check_inside(s: &[u8], run: Run, width: u32) -> RunCheck
+fn check_inside(s: &[u8], run: Run, width: u32) -> Result<(), Refusal>
     requires inside { Inside s.now run.bit (run.count * width) }
     requires width_bound { width ≤ 16 }
     ensures answer { check_says result
@@ -153,7 +142,7 @@ fn check_inside(s: &[u8], run: Run, width: u32) -> RunCheck
     }
     let first = stepped(0, one_inside(s, run.bit, width));
     if run.limit as u64 <= first {
-        return RunCheck::Declined(8);
+        return Err(Refusal::RunningNumber);
     }
     let rest = Run {
         bit: run.bit + width as usize,
@@ -190,46 +179,26 @@ fn run_there(s: &[u8], bit: usize, width: u32, count: usize) -> bool
 }
 
 // Judges a run of one running number: 2, then 3 and 8 in field order.
-pub fn check_run(s: &[u8], run: Run) -> RunCheck
+pub fn check_run(s: &[u8], run: Run) -> Result<(), Refusal>
     ensures answer { check_says result
         ≡ limited s.now
         (judged (read_run s.now (width_of run.limit) run.limit run.count run.bit (zeros 1))) }
 {
     if 67_108_864 < s.len() {
-        return RunCheck::Declined(2);
+        return Err(Refusal::PayloadTooLong);
     }
     let width = bit_width(run.limit as u32);
     if run_there(s, run.bit, width, run.count as usize) {
         return check_inside(s, run, width);
     }
     // Lent anew: passed on as it is, the slice is kept in memory on the fast way too, and tiny meshes wait for that.
-    check_turns(&s[..], run.bit, run.limit, run.count as usize, width, true)
+    check_turns::<true>(&s[..], run.bit, run.limit, run.count as usize, width)
 }
 
 // ---- five running numbers, which take turns
 
-// Where five fields take them: below 0 they stand far above every limit.
-#[derive(Clone, Copy)]
-struct Moved {
-    a: u64,
-    b: u64,
-    c: u64,
-    d: u64,
-    e: u64,
-}
-
-// Five neighbouring fields.
-#[derive(Clone, Copy)]
-struct Fields {
-    a: u32,
-    b: u32,
-    c: u32,
-    d: u32,
-    e: u32,
-}
-
 // Five fields that are known to be there: two windows of two, and one of one.
-fn five_inside(s: &[u8], bit: usize, width: u32) -> Fields
+fn five_inside(s: &[u8], bit: usize, width: u32) -> Five<u32>
     requires inside { Inside s.now bit (5 * width) }
     requires width_bound { width ≤ 16 }
     ensures { FieldsAt s.now width bit result }
@@ -237,7 +206,7 @@ fn five_inside(s: &[u8], bit: usize, width: u32) -> Fields
     let step = 2 * (width as usize);
     let f = two_inside(s, bit, width);
     let g = two_inside(s, bit + step, width);
-    Fields {
+    Five {
         a: f.a,
         b: f.b,
         c: g.a,
@@ -247,10 +216,10 @@ fn five_inside(s: &[u8], bit: usize, width: u32) -> Fields
 }
 
 // Where five fields take five running numbers.
-fn move_five(v: Five, f: Fields) -> Moved
+fn move_five(v: Five<u16>, f: Five<u32>) -> Five<u64>
     ensures { MovedBy f v result }
 {
-    Moved {
+    Five {
         a: stepped(v.a as u32, f.a),
         b: stepped(v.b as u32, f.b),
         c: stepped(v.c as u32, f.c),
@@ -259,13 +228,13 @@ fn move_five(v: Five, f: Fields) -> Moved
     }
 }
 
-fn all_below(v: Moved, limit: u64) -> bool
+fn all_below(v: Five<u64>, limit: u64) -> bool
     ensures { result ≡ all_below limit v }
 {
     (v.a < limit) & (v.b < limit) & (v.c < limit) & (v.d < limit) & (v.e < limit)
 }
 
-fn low_five(v: Moved) -> Five
+fn low_five(v: Five<u64>) -> Five<u16>
     ensures { five result ≡ five_low v }
 {
     Five {
@@ -278,43 +247,38 @@ fn low_five(v: Moved) -> Five
 }
 
 // Five running numbers over fives of fields that are all there.
-fn check_all_fives(s: &[u8], run: Run, width: u32) -> RunCheck
-    requires inside { Inside s.now run.bit (run.count * (5 * width)) }
+fn check_all_fives(s: &[u8], run: Run, width: u32) -> Result<(), Refusal>
+    requires inside { Inside s.now run.bit (5 * run.count * width) }
     requires width_bound { width ≤ 16 }
     ensures answer { check_says result
         ≡ judged (read_run s.now width run.limit (5 * run.count) run.bit (zeros 5)) }
 {
     let limit = run.limit as u64;
     let mut bit = run.bit;
-    let mut v = Five {
-        a: 0,
-        b: 0,
-        c: 0,
-        d: 0,
-        e: 0,
-    };
-    let mut left = run.count;
-    while 0 < left {
+    let mut v = START;
+    for _ in 0..run.count {
         let next = move_five(v, five_inside(s, bit, width));
         if !all_below(next, limit) {
-            return RunCheck::Declined(8);
+            return Err(Refusal::RunningNumber);
         }
         v = low_five(next);
         bit += 5 * (width as usize);
-        left -= 1;
     }
-    RunCheck::Good
+    Ok(())
 }
 
+// Beside `check_run`, and so `fill_fives` beside `fill_run`: two such calls share no more than the tests before the
+// fast way, which is another for each, and one contract for both would say by cases what two say plainly.
+
 // Judges a run of five running numbers, which has `count` fives of fields: 2, then 3 and 8 in field order.
-pub fn check_fives(s: &[u8], run: Run) -> RunCheck
+pub fn check_fives(s: &[u8], run: Run) -> Result<(), Refusal>
     ensures answer { check_says result
         ≡ limited s.now
         (judged
         (read_run s.now (width_of run.limit) run.limit (5 * run.count) run.bit (zeros 5))) }
 {
     if 67_108_864 < s.len() {
-        return RunCheck::Declined(2);
+        return Err(Refusal::PayloadTooLong);
     }
     let width = bit_width(run.limit as u32);
     let count = 5 * (run.count as usize);
@@ -322,11 +286,12 @@ pub fn check_fives(s: &[u8], run: Run) -> RunCheck
         return check_all_fives(s, run, width);
     }
     // Lent anew, as in `check_run`.
-    check_turns(&s[..], run.bit, run.limit, count, width, false)
+    check_turns::<false>(&s[..], run.bit, run.limit, count, width)
 }
 
 // ---- the numbers of runs that were judged before
 
+// A store for each, here and in `put_five`: as one slice the numbers are joined to words first, which is slower.
 fn put_two(out: &mut [u16], at: usize, a: u16, b: u16)
     requires { at + 2 ≤ length out.old }
     ensures { out.new ≡ sets out.old at (a ∷ b ∷ []) }
@@ -345,18 +310,15 @@ fn fill_pairs(s: &[u8], start: usize, width: u32, from: u16, out: &mut [u16])
     let n = out.len();
     let mut bit = start;
     let mut last = from;
-    let even = n - n % 2;
-    let mut at: usize = 0;
-    while at < even {
+    for i in 0..n / 2 {
         let f = two_inside(s, bit, width);
         let a = low_half(stepped(last as u32, f.a));
         last = low_half(stepped(a as u32, f.b));
-        put_two(out, at, a, last);
+        put_two(out, 2 * i, a, last);
         bit += 2 * (width as usize);
-        at += 2;
     }
-    if at < n {
-        out[at] = low_half(stepped(last as u32, one_inside(s, bit, width)));
+    if n % 2 == 1 {
+        out[n - 1] = low_half(stepped(last as u32, one_inside(s, bit, width)));
     }
 }
 
@@ -373,7 +335,7 @@ pub fn fill_run(s: &[u8], bit: usize, width: u32, from: u16, out: &mut [u16]) ->
     true
 }
 
-fn put_five(out: &mut [u16], at: usize, v: Five)
+fn put_five(out: &mut [u16], at: usize, v: Five<u16>)
     requires { at + 5 ≤ length out.old }
     ensures { out.new ≡ sets out.old at (five v) }
 {
@@ -393,19 +355,11 @@ fn fill_all_fives(s: &[u8], start: usize, width: u32, out: &mut [u16])
 {
     let n = out.len();
     let mut bit = start;
-    let mut v = Five {
-        a: 0,
-        b: 0,
-        c: 0,
-        d: 0,
-        e: 0,
-    };
-    let mut at: usize = 0;
-    while at < n {
+    let mut v = START;
+    for i in 0..n / 5 {
         v = low_five(move_five(v, five_inside(s, bit, width)));
-        put_five(out, at, v);
+        put_five(out, 5 * i, v);
         bit += 5 * (width as usize);
-        at += 5;
     }
 }
 

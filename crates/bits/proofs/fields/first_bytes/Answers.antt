@@ -17,19 +17,19 @@ byte s i x y e f =
     ap₂ (λ (u v : ℕ). u * 256 + v) e (f ∙ ap (λ (k : ℕ). get_or s k 0) z) ∙ sym (bytes_next s 0 i)
 
 pub loop-i-init : goal.loop-i-init
-loop-i-init c = let s = c.args.s.now in (omega arith, sym (field-zero s 0), omega arith, sym (bytes_none s 0))
+loop-i-init c = let s = c.args.s.now in (sym (field-zero s 0), omega arith, sym (bytes_none s 0))
 
 pub loop-i-preserved : goal.loop-i-preserved
 loop-i-preserved c =
     let a = c.args in
     let l = c.loop-i in
-    let t = turn a.s.now l.i l.x c.wide.result (c.type_inv.s l.i).fits l.invariant.1 c.wide.ensures.0 in
-    let w = byte a.s.now l.i l.x c.wide.result l.invariant.3 c.wide.ensures.0 in
-    (omega arith, t, rw t (field_below a.s.now 0 (8 * (l.i + 1)) 40 (omega arith)), w)
+    let t = turn a.s.now l.i l.x c.wide.result (c.type_inv.s l.i).fits l.invariant.0 c.wide.ensures.0 in
+    let w = byte a.s.now l.i l.x c.wide.result l.invariant.2 c.wide.ensures.0 in
+    (t, rw t (field_below a.s.now 0 (8 * (l.i + 1)) 40 (omega arith)), w)
 
 pub returns : goal.returns
 returns c =
     let a = c.args in
     let l = c.loop-i in
     let e : l.i ≡ a.n = omega arith in
-    (l.invariant.3 ∙ ap (λ (k : ℕ). whole_bytes a.s.now 0 k) e, l.invariant.1 ∙ ap (λ (k : ℕ). field a.s.now 0 (8 * k)) e)
+    (l.invariant.2 ∙ ap (λ (k : ℕ). whole_bytes a.s.now 0 k) e, l.invariant.0 ∙ ap (λ (k : ℕ). field a.s.now 0 (8 * k)) e)

@@ -2,13 +2,13 @@
 use Rattle.std.proofs.Common.{◌≡◌, ℕ, ◌+◌, ◌*◌, ◌≤◌, List, length, sym, ap, ◌∙◌, ap₂, arith}
 use Rattle.bits.specs.Verdict.{Verdict, accepted, declined}
 use Rattle.bits.specs.Field.{field}
-use Rattle.bits.specs.Read.{number_at, word_says}
+use Rattle.bits.specs.Read.{number_at}
 use Rattle.bits.specs.Header.{Item, list_end, sized_at, header_at}
 use Rattle.bits.proofs.HeaderLaws.{word_read, word_cut, header_end, header_sized}
 use Rattle.bits.proofs.headers.box_header.Goals as goal
 
 module _ (s : List ℕ) (p size q : ℕ) (first : accepted (size, q) ≡ number_at 4 s p) where
-  one : declined 3 ≡ number_at 4 s q → accepted list_end ≡ header_at s p
+  one : {k : ℕ} → declined k ≡ number_at 4 s q → accepted list_end ≡ header_at s p
   one e = let a = word_read s p size q first in let b = word_cut s q e in sym (header_end s p (omega arith))
 
   module _ (type next : ℕ) (second : accepted (type, next) ≡ number_at 4 s q) where
@@ -25,23 +25,20 @@ module _ (s : List ℕ) (p size q : ℕ) (first : accepted (size, q) ≡ number_
 pub box_of_size-requires : goal.box_of_size-requires
 box_of_size-requires c =
     let a = c.args in
-    room a.s.now a.c.at _ _ (ap word_says (sym c.in-Value.is) ∙ c.u32.ensures)
-    _ _ (ap word_says (sym c.in-Value-u32.is) ∙ c.u32-in-Value.ensures)
+    room a.s.now a.c.at _ _ c.in-Ok.ensures _ _ c.in-Ok-u32.ensures
 
-pub returns-in-Short : goal.returns-in-Short
-returns-in-Short c =
+pub returns-in_default : goal.returns-in_default
+returns-in_default c =
     let a = c.args in
-    let b = word_cut a.s.now a.c.at (ap word_says (sym c.in-Short.is) ∙ c.u32.ensures) in
+    let b = word_cut a.s.now a.c.at c.in_default.ensures in
     sym (header_end a.s.now a.c.at (omega arith))
 
-pub returns-in-Short-u32 : goal.returns-in-Short-u32
-returns-in-Short-u32 c =
+pub returns-in_default-u32 : goal.returns-in_default-u32
+returns-in_default-u32 c =
     let a = c.args in
-    one a.s.now a.c.at _ _ (ap word_says (sym c.in-Value.is) ∙ c.u32.ensures)
-    (ap word_says (sym c.in-Short-u32.is) ∙ c.u32-in-Value.ensures)
+    one a.s.now a.c.at _ _ c.in-Ok.ensures c.in_default-u32.ensures
 
-pub returns-in-Value-u32 : goal.returns-in-Value-u32
-returns-in-Value-u32 c =
+pub returns : goal.returns
+returns c =
     let a = c.args in
-    two a.s.now a.c.at _ _ (ap word_says (sym c.in-Value.is) ∙ c.u32.ensures)
-    _ _ (ap word_says (sym c.in-Value-u32.is) ∙ c.u32-in-Value.ensures) _ c.box_of_size.ensures
+    two a.s.now a.c.at _ _ c.in-Ok.ensures _ _ c.in-Ok-u32.ensures _ c.box_of_size.ensures

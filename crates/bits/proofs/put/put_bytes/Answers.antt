@@ -1,6 +1,6 @@
 -- `put_bytes` meets its contract: i bytes are put, the rest stands as it was. Assumes nothing.
 use Rattle.std.proofs.Common.{◌≡◌, ℕ, ◌+◌, ◌-◌, ◌*◌, ◌/◌, ◌%◌, ◌^◌, ◌<◌, ◌≤◌, List, ◌++◌, length, take, drop, set, sym, ap, ◌∙◌, add-one, arith, take_all}
-use lib.Seq.{sets, sets-eq, paste, paste-zero, paste-suc, length-paste}
+use lib.Seq.{sets, sets-eq, paste, paste-suc, length-paste}
 use Rattle.bits.specs.Put.{bytes_of}
 use Rattle.bits.proofs.ByteLaws.{length_bytes, get_d_bytes}
 use Rattle.bits.proofs.put.put_bytes.Goals as goal
@@ -25,29 +25,15 @@ whole d at n x i f e =
     ∙ ap (λ (k : ℕ). take at d ++ b ++ drop (at + k) d) (sym m)
     ∙ sym (sets-eq b d at (omega arith))
 
-pub loop-i-init : goal.loop-i-init
-loop-i-init c = let a = c.args in (omega arith, paste-zero a.out.now a.at (bytes_of a.n a.x))
-
-pub bounds-out-at : goal.bounds-out-at
-bounds-out-at c =
-    let a = c.args in
-    let l = c.loop-i in
-    rw l.invariant.1 (omega (arith, long a.out.now a.at a.n a.x l.i (omega arith) l.invariant.0))
-
 pub loop-i-preserved : goal.loop-i-preserved
 loop-i-preserved c =
     let a = c.args in
     let l = c.loop-i in
-    (omega arith, ap (λ (d : List ℕ). set d (a.at + l.i) (a.x / 2 ^ (8 * (a.n - 1 - l.i)) % 256)) l.invariant.1 ∙ turn a.out.now a.at a.n a.x l.i c.requires.1 (omega arith) (omega arith))
-
-pub shape_of-out : goal.shape_of-out
-shape_of-out c =
-    let a = c.args in
-    let l = c.loop-i in
-    ap length l.invariant.1 ∙ long a.out.now a.at a.n a.x l.i (omega arith) l.invariant.0
+    ap (λ (d : List ℕ). set d (a.at + l.i) (a.x / 2 ^ (8 * (a.n - 1 - l.i)) % 256)) l.invariant
+    ∙ turn a.out.now a.at a.n a.x l.i c.requires.1 (omega arith) (omega arith)
 
 pub returns : goal.returns
 returns c =
     let a = c.args in
     let l = c.loop-i in
-    l.invariant.1 ∙ whole a.out.now a.at a.n a.x l.i (omega arith) (omega arith)
+    l.invariant ∙ whole a.out.now a.at a.n a.x l.i (omega arith) (omega arith)

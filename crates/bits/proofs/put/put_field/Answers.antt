@@ -1,5 +1,5 @@
 -- `put_field` meets its contract: the bytes that it touches are put as one number. Assumes nothing.
-use Rattle.std.proofs.Common.{◌≡◌, ℕ, ◌+◌, ◌-◌, ◌*◌, ◌/◌, ◌%◌, ◌^◌, ◌<◌, ◌≤◌, List, [], ◌∷◌, length, get_or, sym, ap, ◌∙◌, mod-lt, arith, pow_pos}
+use Rattle.std.proofs.Common.{◌≡◌, ℕ, ◌+◌, ◌-◌, ◌*◌, ◌/◌, ◌%◌, ◌^◌, ◌<◌, ◌≤◌, List, [], ◌∷◌, length, get_or, sym, ap, ◌∙◌, mod-lt, arith, rules, pow_pos}
 use lib.Seq.{sets}
 use Rattle.bits.specs.Verdict.{Verdict, accepted, declined, within, needs as Needs}
 use Rattle.bits.specs.Put.{bytes_of, touched, free, joined, bits_put, field_put, field_put_answer}
@@ -60,10 +60,14 @@ returns-then-n-eq0 c =
 pub put_bytes-requires : goal.put_bytes-requires
 put_bytes-requires c =
     let a = c.args in
-    let e = whole a.out.now a.bit a.width a.value _ (c.slice_known-2-1.given (a.bit / 8)).fits c.joined_of-x.ensures in
+    let b : get_or a.out.now (a.bit / 8) 0 < 256 = search rules in
+    let e = whole a.out.now a.bit a.width a.value _ b c.joined_of-x.ensures in
     (omega arith, rw e (small a.out.now a.bit a.width a.value), omega arith)
 
 pub returns : goal.returns
 returns c =
-    let a = c.args in let r = done a.out.now a.bit a.width a.value (omega arith) (omega arith) _
-    (put a.out.now a.bit a.width a.value _ _ (whole a.out.now a.bit a.width a.value _ (c.slice_known-2-1.given (a.bit / 8)).fits c.joined_of-x.ensures) c.put_bytes.ensures) in record { result_value = r.0; out_after = r.1 }
+    let a = c.args in
+    let b : get_or a.out.now (a.bit / 8) 0 < 256 = search rules in
+    let e = whole a.out.now a.bit a.width a.value _ b c.joined_of-x.ensures in
+    let r = done a.out.now a.bit a.width a.value (omega arith) (omega arith) _ (put a.out.now a.bit a.width a.value _ _ e c.put_bytes.ensures) in
+    record { result_value = r.0; out_after = r.1 }

@@ -4,8 +4,8 @@ use Rattle.bits.specs.Verdict.{declined}
 use Rattle.bits.proofs.VerdictLaws.{within_yes, within_no}
 use Rattle.bits.proofs.bytes.ByteCursor.seek.Goals as goal
 
-pub returns-then-to-s : goal.returns-then-to-s
-returns-then-to-s c = let a = c.args in sym (within_yes a.to (length a.s.now) a.to (declined 3) (omega (arith, c.if-to-s.true)))
+pub returns-then-s-to : goal.returns-then-s-to
+returns-then-s-to c = let a = c.args in sym (within_no a.to (length a.s.now) a.to (declined 3) (omega arith))
 
-pub returns-else-to-s : goal.returns-else-to-s
-returns-else-to-s c = let a = c.args in sym (within_no a.to (length a.s.now) a.to (declined 3) (omega (arith, c.if-to-s.false)))
+pub returns : goal.returns
+returns c = let a = c.args in sym (within_yes a.to (length a.s.now) a.to (declined 3) (omega arith))

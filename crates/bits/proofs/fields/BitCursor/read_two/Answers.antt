@@ -30,6 +30,6 @@ returns c =
     let x = c.bits_before.result in
     let e = c.bits_before.ensures in
     two_taken s p w _ _ _ (omega arith) (omega arith)
-    (taken s p w w (p + 2 * w) x _ (omega arith) (omega arith) e c.two_of-f.ensures.0)
-    (taken_last s (p + w) w (p + 2 * w) x _ (omega arith) (omega arith) e c.two_of-f.ensures.1)
+    (taken s p w w (p + 2 * w) x _ (omega arith) (omega arith) e c.two_of.ensures.0)
+    (taken_last s (p + w) w (p + 2 * w) x _ (omega arith) (omega arith) e c.two_of.ensures.1)
     refl

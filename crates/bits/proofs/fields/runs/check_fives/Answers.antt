@@ -3,7 +3,7 @@ use Rattle.std.proofs.Common.{◌*◌, sym, ◌∙◌, arith}
 use Rattle.bits.specs.Number.{width_of}
 use Rattle.bits.specs.Run.{zeros}
 use Rattle.bits.proofs.ThereLaws.{there_inside}
-use Rattle.bits.proofs.JudgedLaws.{run_too_long, run_said, width_most, fives_bits}
+use Rattle.bits.proofs.JudgedLaws.{run_too_long, run_said, width_most}
 use Rattle.bits.proofs.fields.runs.check_fives.Goals as goal
 
 pub returns-then-s-gt67108864 : goal.returns-then-s-gt67108864
@@ -12,7 +12,7 @@ returns-then-s-gt67108864 c = let a = c.args in record { answer = run_too_long a
 pub check_all_fives-requires : goal.check_all_fives-requires
 check_all_fives-requires c =
     let a = c.args in
-    let t = there_inside a.s.now a.run.bit c.bit_width-width.result (5 * a.run.count) (sym c.run_there.ensures ∙ c.if-run_there.true) in record { inside = (rw (fives_bits a.run.count c.bit_width-width.result) at t.0); width_bound = t.2 }
+    let t = there_inside a.s.now a.run.bit c.bit_width-width.result (5 * a.run.count) (sym c.run_there.ensures ∙ c.if-run_there.true) in record { inside = t.0; width_bound = t.2 }
 
 pub returns-then-run_there : goal.returns-then-run_there
 returns-then-run_there c =

@@ -1,14 +1,13 @@
 -- `fill_pairs` meets its contract: storing the numbers that are left gives what storing all at first gives. Assumes nothing.
-use Rattle.std.proofs.Common.{◌≡◌, ◌-◌, ◌*◌, ◌%◌, ◌≤◌, [], ◌∷◌}
+use Rattle.std.proofs.Common.{◌-◌, ◌*◌, [], ◌∷◌}
 use Rattle.bits.specs.Run.{summed}
 use Rattle.bits.specs.Internal.{Inside}
 use Rattle.bits.proofs.SummedLaws.{Storing}
 use Rattle.bits.proofs.fields.runs.fill_pairs.Given as goal
 
-abbrev pub invariant-loop-at : goal.invariant-loop-at
-invariant-loop-at l =
-    Storing l.s l.width l.initial.out (summed l.s l.width l.n l.start (l.initial.last ∷ [])) l.out l.n l.at l.bit (l.last ∷ [])
-    × Inside l.s l.bit ((l.n - l.at) * l.width) × (l.last ≤ 65535) × (l.at % 2 ≡ 0)
-
-abbrev pub decreases-loop-at : goal.decreases-loop-at
-decreases-loop-at l = l.n - l.at
+abbrev pub invariant-loop-i : goal.invariant-loop-i
+invariant-loop-i l = record {
+  storing :
+      Storing l.s l.width l.initial.out (summed l.s l.width l.n l.start (l.from ∷ [])) l.out l.n (2 * l.i) l.bit (l.last ∷ []);
+  inside : Inside l.s l.bit ((l.n - 2 * l.i) * l.width);
+}
