@@ -9,7 +9,7 @@ use Rattle.bits.specs.Run.{zeros, RunSpells, Found, read_run, judged}
 use Rattle.payload.specs.MeshSpells.{aligned, vertices_at}
 use Rattle.payload.specs.MeshRead.{many, submesh_of, read_submesh, read_submeshes, mesh_of}
 use Rattle.payload.specs.MeshDrawing.{point_count}
-use Rattle.payload.specs.Internal.{read_words, after_counts, points_end, submeshes_size, body_size}
+use Rattle.payload.specs.Internal.{read_words, after_counts, points_end, submeshes_size, body_size, SubmeshPlace}
 use Rattle.bits.proofs.RunLaws.{run_spells}
 use Rattle.payload.proofs.RangeLaws.{many_none, many_declined, many_on}
 use Rattle.payload.proofs.SubmeshLaws.{submesh_run, submesh_spells, submeshes_spell}
@@ -50,6 +50,20 @@ module _ (s : List ℕ) (w m p : ℕ) where
         let v = mapped_value (λ _. tt) (read_run s w m count (p + 48) (zeros 1)) tt e in
         let f = run_spells s w m count (p + 48) (zeros 1) v.0.0 v.0.1 (omega arith) v.1 in
         run_fits count f.0 f.1 l
+
+    -- both, from the answer on the run in a body within its limit
+    pub submesh_told : length s ≤ 67108864 → w ≡ width_of m
+        → accepted tt ≡ limited s (judged (read_run s (width_of m) m count (p + 48) (zeros 1)))
+        → (accepted (count, p + 48 + count * w) ≡ mapped points_end (read_submesh s w m p))
+        × (p + 48 + count * w ≤ 8 * length s)
+    submesh_told h i e =
+        let good : accepted tt ≡ judged (read_run s w m count (p + 48) (zeros 1)) = rw (← i) at (run_told s _ _ h e) in
+        (submesh_good good, submesh_room good)
+
+    pub submesh_refused : length s ≤ 67108864 → w ≡ width_of m → (k : ℕ)
+        → declined k ≡ limited s (judged (read_run s (width_of m) m count (p + 48) (zeros 1)))
+        → declined k ≡ mapped points_end (read_submesh s w m p)
+    submesh_refused h i k e = submesh_bad k (rw (← i) at (run_told s _ _ h e))
 
   -- it ends within the bytes, and each point takes a bit or more
   pub submesh_end : (n q : ℕ) → 1 ≤ w → accepted (n, q) ≡ mapped points_end (read_submesh s w m p) → (q ≤ 8 * length s) × (p + n ≤ q)
@@ -127,6 +141,13 @@ module _ (s : List ℕ) (n m : ℕ) where
 
     pub vertices_end_law : 1 ≤ m → vertices_at n + 5 * m * w ≤ 8 * length s
     vertices_end_law o = numbers.3 o
+
+    -- the submeshes' place
+    pub submeshes_place : (v : ℕ) → v ≡ width_of m → length s ≤ 67108864 → 1 ≤ m → m ≤ 32000
+        → SubmeshPlace s v m (aligned (vertices_at n + 5 * m * w))
+    submeshes_place v ev h o u =
+        let r = vertices_end_law o in
+        record { short = h; wide = ev; some = o; most = u; low = omega arith; inside = omega arith }
 
     -- the submeshes' answer makes the body's
     pub body_says_law : (v : ℕ) (r : Verdict (ℕ × ℕ)) → v ≡ width_of m → r ≡ mapped submeshes_size (read_submeshes s v m (aligned (vertices_at n + 5 * m * w)))

@@ -1,12 +1,17 @@
 -- Laws of the cube map: its numbers stay small, how long its lists are, and the ways through its refusals. Assumes nothing.
-use Rattle.std.proofs.Common.{◌≡◌, ℕ, ◌+◌, ◌*◌, ◌^◌, ◌<◌, ◌≤◌, Bool, true, false, ◌&&◌, T, leb, [], ◌∷◌, length, pos, sym, refl, ap, ◌∙◌, mul_assoc, add-mul, mul-le-mul, one-mul, arith, le→leb, leb-true}
+use Rattle.std.proofs.Common.{◌≡◌, ℕ, ◌+◌, ◌*◌, ◌^◌, ◌<◌, ◌≤◌, Bool, true, false, cond, ◌&&◌, T, leb, List, [], ◌∷◌, length, pos, sym, refl, ap, ◌∙◌, mul_assoc, add-mul, mul-le-mul, one-mul, arith, le→leb, leb-true, le-leb}
 use lib.Ieee.{Float, binary32, in_float}
-use lib.Ieee.Scale.{finite}
-use Rattle.bits.specs.Verdict.{accepted, declined}
+use Rattle.std.specs.Float.{float_is_finite}
+use Rattle.bits.specs.Verdict.{Verdict, accepted, declined}
+use Rattle.bits.specs.Says.{number_of}
+use Rattle.bits.specs.declared.refusals.Refusal.{Refusal}
+use Rattle.bits.specs.declared.refusals.Refusal.TheVariants as R
 use Rattle.payload.specs.Cube.{cells_usable, cube_vertex, cube_cell, cube_row, cube_face, cube_triangles, cube_numbers, share_usable, cube_point, point_row, point_face, cube_points, cube_floats}
 use Rattle.payload.specs.declared.cube.Face.{Face}
 use Rattle.payload.specs.InternalCube.{cell_of, face_of, point_of, row_of}
-use Rattle.payload.proofs.FillLaws.{each-length}
+use Rattle.payload.specs.Fill.{both_lengths}
+use Rattle.payload.proofs.FillLaws.{each-length, both_second}
+use Rattle.payload.proofs.FloatTests.{finite_is}
 
 -- ---- small numbers
 
@@ -20,7 +25,7 @@ first_small cells face y small h l =
     let g = mul-le-mul {n₁ = y} {m₁ = cells + 1} {n₂ = 102} {m₂ = 104} (omega arith) (omega arith) in
     omega arith
 
-pub in_float_lem : (n : ℕ) → n ≤ 103 → T (in_float binary32 (pos n))
+pub in_float_lem : (n : ℕ) → n ≤ 65536 → T (in_float binary32 (pos n))
 unfolding in_float
 in_float_lem n h = le→leb n (2 ^ 24) (omega arith)
 
@@ -70,36 +75,57 @@ module _ (cells : ℕ) where
     unfolding cube_points
     length_points = omega (arith, each-length (point_face cells radius share) ((cells + 1) * ((cells + 1) * 5)) length_points_face 6, mul_assoc (cells + 1) (cells + 1) 5)
 
--- ---- refusals: u is what the test of cells said, r and s what those of the radius and of the share said
+-- ---- the ways through the refusals
 
-right : (x y : Bool) → (x && y) ≡ true → y ≡ true
-right true y e = e
-right false true e = refl
-right false false e = e
+module _ (cells : ℕ) where
+  pub usable_yes : (1 ≤ cells) × (cells ≤ 103) → cells_usable cells ≡ true
+  unfolding cells_usable
+  usable_yes h = rw (le-leb 1 cells h.0, le-leb cells 103 h.1)
 
-module _ (cells : ℕ) (u : Bool) (tested : u ≡ cells_usable cells) where
-  pub numbers_no : u ≡ false → cube_numbers cells ≡ declined 9
+  pub usable_no : (1 ≤ cells → cells ≤ 103 → ⊥) → cells_usable cells ≡ false
+  unfolding cells_usable
+  usable_no h = go (leb 1 cells) (leb cells 103) refl refl
+    where
+      go : (p q : Bool) → leb 1 cells ≡ p → leb cells 103 ≡ q → (p && q) ≡ false
+      go true true e f = absurd (h (leb-true 1 cells e) (leb-true cells 103 f))
+      go true false e f = refl
+      go false q e f = refl
+
+  -- what a test of cells told, and what it said of cells that it takes
+  abbrev pub Untaken : Refusal → Type 0
+  Untaken e = (e ≡ R.Grid) × (cells_usable cells ≡ false)
+
+  pub numbers_no : (e : Refusal) → Untaken e → cube_numbers cells ≡ declined (number_of e)
   unfolding cube_numbers
-  numbers_no h = rw (sym tested, h)
+  numbers_no e h = rw (h.1, h.0)
 
-  pub floats_no : (radius share : Float) → u ≡ false → cube_floats cells radius share ≡ declined 9
+  module _ (radius share : Float) where
+    pub floats_no : (e : Refusal) → Untaken e → declined (number_of e) ≡ cube_floats cells radius share
+    unfolding cube_floats
+    floats_no e h = rw (h.1, h.0)
+
+-- cells that are taken, and what the test of the radius and the share said
+module _ (cells n : ℕ) (taken : n ≡ cells) (few : (1 ≤ n) × (n ≤ 103)) (radius share : Float) (r s : Bool)
+    (finite? : r ≡ float_is_finite radius) (share? : s ≡ share_usable share) where
+  pub floats_odd : (r && s) ≡ false → declined 11 ≡ cube_floats cells radius share
   unfolding cube_floats
-  floats_no radius share h = rw (sym tested, h)
+  floats_odd h = rw (← taken, usable_yes n few, ← finite_is radius, ← finite?, ← share?, h)
 
-  module _ (yes : u ≡ true) where
-    pub cells_small : cells ≤ 103
-    unfolding cells_usable
-    cells_small = leb-true cells 103 (right (leb 1 cells) (leb cells 103) (sym tested ∙ yes))
+  pub floats_yes : (r && s) ≡ true → accepted (cube_points n radius share) ≡ cube_floats cells radius share
+  unfolding cube_floats
+  floats_yes h = rw (← taken, usable_yes n few, ← finite_is radius, ← finite?, ← share?, h)
 
-    pub numbers_yes : cube_numbers cells ≡ accepted (cube_triangles cells)
-    unfolding cube_numbers
-    numbers_yes = rw (sym tested, yes)
+pub numbers_yes : (cells n : ℕ) → n ≡ cells → (1 ≤ n) × (n ≤ 103) → cube_numbers cells ≡ accepted (cube_triangles n)
+unfolding cube_numbers
+numbers_yes cells n e few = rw (← e, usable_yes n few)
 
-    module _ (radius share : Float) (r s : Bool) (finite? : r ≡ finite radius) (share? : s ≡ share_usable share) where
-      pub floats_odd : (r && s) ≡ false → cube_floats cells radius share ≡ declined 11
-      unfolding cube_floats
-      floats_odd h = rw (sym tested, yes, sym finite?, sym share?, h)
-
-      pub floats_yes : (r && s) ≡ true → cube_floats cells radius share ≡ accepted (cube_points cells radius share)
-      unfolding cube_floats
-      floats_yes h = rw (sym tested, yes, sym finite?, sym share?, h)
+-- where the floats are refused, so are the two lengths
+pub lengths_no : (cells k : ℕ) (radius share : Float) → declined k ≡ cube_floats cells radius share
+    → declined k ≡ both_lengths (cube_numbers cells) (cube_floats cells radius share)
+unfolding cube_numbers cube_floats
+lengths_no cells k radius share e = go (cells_usable cells) _ e
+  where
+    go : (u : Bool) (w : Verdict (List ℕ)) → declined k ≡ cond u w (declined 9)
+        → declined k ≡ both_lengths (cond u (accepted (cube_triangles cells)) (declined 9)) (cond u w (declined 9))
+    go true w h = both_second (accepted (cube_triangles cells)) w (cube_triangles cells) k refl (sym h)
+    go false w h = let e : k ≡ 9 = cc in rw e

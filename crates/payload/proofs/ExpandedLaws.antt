@@ -1,11 +1,11 @@
 -- Expanded vertices, whose words a buffer holds from a place on: how they are made, that stores before them leave them, and that what is stored over them at last hides them. Assumes nothing.
-use Rattle.std.proofs.Common.{◌≡◌, ℕ, zero, suc, ◌+◌, ◌-◌, ◌*◌, ◌<◌, ◌≤◌, List, [], ◌∷◌, ◌++◌, length, get_or, take, drop, set, sym, refl, ap, ◌∙◌, ap₂, arith, drop-cons, get_or-set_other, drop-set-lt}
+use Rattle.std.proofs.Common.{◌≡◌, ℕ, zero, suc, ◌+◌, ◌-◌, ◌*◌, ◌<◌, ◌≤◌, List, [], ◌∷◌, ◌++◌, length, get_or, take, drop, set, sym, refl, ap, ◌∙◌, ap₂, arith, get_or-set_other, drop-set-lt}
 use lib.Seq.{sets, sets-eq, length-sets, take-set-le}
 use Rattle.payload.specs.MeshDrawing.{point_words, run_words}
 use Rattle.payload.specs.Internal.{word_at, word_in, words_from, Expanded, ExpandedFrom, PointsBelow}
 use Rattle.payload.proofs.FillLaws.{get_d_sets}
 use Rattle.payload.proofs.MeasureLaws.{run_floats}
-use Rattle.payload.proofs.PointLaws.{point_first, point_agrees, run_agrees}
+use Rattle.payload.proofs.PointLaws.{points_first, point_agrees, run_agrees}
 
 -- ---- stores leave what lies before and after them
 
@@ -48,14 +48,15 @@ module _ (f : ℕ → ℕ) where
   words_none k zero h = refl
   words_none k (suc n) h = absurd (omega arith)
 
-  -- the first word is stored, and the others are left
-  pub words_first : (d : List ℕ) (k n o : ℕ) → 0 < n → sets d o (words_from f k n) ≡ sets (set d o (f k)) (o + 1) (words_from f (k + 1) (n - 1))
+  -- word i of n is stored, and the others are left
+  pub words_next : (d : List ℕ) (k n o i : ℕ) {x : ℕ} → i < n → x ≡ f (k + i)
+      → sets d (o + i) (words_from f (k + i) (n - i)) ≡ sets (set d (o + i) x) (o + (i + 1)) (words_from f (k + (i + 1)) (n - (i + 1)))
   unfolding words_from
-  words_first d k zero o h = absurd (omega arith)
-  words_first d k (suc n) o h =
-      let z : suc n - 1 ≡ n = omega arith in
-      let y : o + 1 ≡ suc o = omega arith in
-      rw (z, y)
+  words_next d k n o i h e =
+      let a : k + (i + 1) ≡ k + i + 1 = omega arith in
+      let b : o + (i + 1) ≡ suc (o + i) = omega arith in
+      let c : n - i ≡ suc (n - (i + 1)) = omega arith in
+      rw (e, a, b, c) refl
 
 pub expanded_made : (s numbers d e : List ℕ) (base n expanded : ℕ) → expanded + n ≤ length d → e ≡ sets d expanded (words_from (word_at s numbers) base n) → Expanded s numbers base n e expanded
 expanded_made s numbers d e base n expanded h k =
@@ -100,18 +101,17 @@ points_expanded {s} {numbers} {base} {m} {expanded} {d} S points o e u k =
 pub record Copying (words₀ all words points : List ℕ) (expanded i to : ℕ) : Type 0 where
   pub same : all ≡ sets words to (run_words (word_in words₀) expanded (drop i points))
   pub kept : (k : ℕ) → expanded ≤ k → word_in words k ≡ word_in words₀ k
-  pub long : length words ≡ length words₀
 
-pub copying_on : {words₀ all words points : List ℕ} {expanded i to : ℕ} → Copying words₀ all words points expanded i to → (words' : List ℕ) → i < length points → to + 5 ≤ expanded
-    → words' ≡ sets words to (point_words (word_in words) (expanded + 5 * get_or points i 0)) → length words' ≡ length words → Copying words₀ all words' points expanded (i + 1) (to + 5)
-copying_on {words₀} {all} {words} {points} {expanded} {i} {to} C words' l h e g =
+pub copying_on : {words₀ all words points : List ℕ} {expanded i to : ℕ} → Copying words₀ all words points expanded i to
+    → (words' : List ℕ) (to' : ℕ) → i < length points → to' ≡ to + 5 → to' ≤ expanded
+    → words' ≡ sets words to (point_words (word_in words) (expanded + 5 * get_or points i 0))
+    → Copying words₀ all words' points expanded (i + 1) to'
+copying_on {words₀} {all} {words} {points} {expanded} {i} {to} C words' to' l t h e =
     let v = get_or points i 0 in
-    let z : i + 1 ≡ suc i = omega arith in
-    let a : point_words (word_in words) (expanded + 5 * v) ≡ point_words (word_in words₀) (expanded + 5 * v) =
-    point_agrees (word_in words) (word_in words₀) (expanded + 5 * v) (expanded + 5 * v) (λ k u. C.kept (expanded + 5 * v + k) (omega arith)) in
-    let d : words' ≡ sets words to (point_words (word_in words₀) (expanded + 5 * v)) = e ∙ ap (sets words to) a in
+    let f = word_in words₀ in
+    let a : point_words (word_in words) (expanded + 5 * v) ≡ point_words f (expanded + 5 * v) =
+    point_agrees (word_in words) f (expanded + 5 * v) (expanded + 5 * v) (λ k u. C.kept (expanded + 5 * v + k) (omega arith)) in
     record {
-      same = C.same ∙ point_first (word_in words₀) expanded v (drop i points) (drop (suc i) points) words to (drop-cons points i 0 l) ∙ rw (z, ← d);
+      same = C.same ∙ points_first f expanded points i words words' to to' l t (e ∙ ap (sets words to) a);
       kept = λ k u. ap (λ (t : List ℕ). get_or t k 0) e ∙ get_d_sets_after (point_words (word_in words) (expanded + 5 * v)) words to k (omega arith) ∙ C.kept k u;
-      long = g ∙ C.long;
     }

@@ -1,5 +1,5 @@
 -- Laws of lists made piece by piece, of buffers filled with them, and of the lengths of two lists. Assumes nothing.
-use Rattle.std.proofs.Common.{◌≡◌, ℕ, zero, suc, ◌+◌, ◌*◌, ◌<◌, ◌≤◌, ◌⊎◌, List, [], ◌∷◌, ◌++◌, map, length, get_or, take, drop, set, sym, refl, ap, ◌∙◌, ap₂, inl, inr, le_refl, add-zero, add-suc, suc-mul, suc-add, zero-mul, add-one, arith, length-append, length-take-le, get_or-append-add}
+use Rattle.std.proofs.Common.{◌≡◌, ℕ, zero, suc, ◌+◌, ◌*◌, ◌<◌, ◌≤◌, ◌⊎◌, List, [], ◌∷◌, ◌++◌, map, length, get_or, take, drop, set, sym, refl, ap, ◌∙◌, ap₂, inl, inr, le_refl, add-zero, add-suc, suc-mul, suc-add, zero-mul, add-one, arith, take-suc, length-append, length-take-le, get_or-append-add}
 use lib.ListN.{get_or-append}
 use lib.Seq.{sets, sets-eq, length-sets}
 use Rattle.bits.specs.Verdict.{Verdict, accepted, declined}
@@ -8,7 +8,7 @@ use Rattle.payload.specs.Fill.{each, both_lengths}
 
 -- ---- pieces
 
-pub each_more : (f : ℕ → List ℕ) (n : ℕ) → each f (n + 1) ≡ each f n ++ f n
+pub each_more : {A : Type 0} (f : ℕ → List A) (n : ℕ) → each f (n + 1) ≡ each f n ++ f n
 unfolding each
 each_more f n = rw add-one
 
@@ -25,7 +25,7 @@ each_same f g e zero = refl
 each_same f g e (suc n) = ap₂ ◌++◌ (each_same f g e n) (e n)
 
 -- there is room for piece j where there is room for n pieces
-pub each-room : (f : ℕ → List ℕ) (j n : ℕ) → j < n → length (each f j) + length (f j) ≤ length (each f n)
+pub each-room : {A : Type 0} (f : ℕ → List A) (j n : ℕ) → j < n → length (each f j) + length (f j) ≤ length (each f n)
 unfolding each
 each-room f j zero h = absurd (omega arith)
 each-room f j (suc n) h = go (each-room f j n) (le-or-lt n j)
@@ -42,7 +42,7 @@ each-length f k e (suc n) = length-append (each f n) (f n) ∙ rw (each-length f
 
 -- ---- stores in a row
 
-pub sets-append : (p q d : List ℕ) (o : ℕ) → sets d o (p ++ q) ≡ sets (sets d o p) (o + length p) q
+pub sets-append : {A : Type 0} (p q d : List A) (o : ℕ) → sets d o (p ++ q) ≡ sets (sets d o p) (o + length p) q
 sets-append [] q d o = ap (λ (k : ℕ). sets d k q) (sym (add-zero o))
 sets-append (x ∷ p) q d o = sets-append p q (set d o x) (suc o) ∙ ap (λ (k : ℕ). sets (sets (set d o x) (suc o) p) k q) (suc-add o (length p) ∙ sym (add-suc o (length p)))
 
@@ -51,11 +51,11 @@ pub sets_then : (p q d l m : List ℕ) (o : ℕ) → l ≡ sets d o p → m ≡ 
 sets_then p q d l m o e h = h ∙ ap (λ (x : List ℕ). sets x (o + length p) q) e ∙ sym (sets-append p q d o)
 
 -- one piece more: l holds n pieces from o on, and w is the place after them
-pub sets-each : (f : ℕ → List ℕ) (n : ℕ) (d l : List ℕ) (o w : ℕ) → l ≡ sets d o (each f n) → w ≡ o + length (each f n) → sets l w (f n) ≡ sets d o (each f (n + 1))
-sets-each f n d l o w e h =
-    ap₂ (λ (x : List ℕ) (k : ℕ). sets x k (f n)) e h
+pub sets-each : {A : Type 0} (f : ℕ → List A) (n : ℕ) (d l : List A) (o w : ℕ) → l ≡ sets d o (each f n) → w ≡ o + length (each f n) → sets l w (f n) ≡ sets d o (each f (n + 1))
+sets-each {A} f n d l o w e h =
+    ap₂ (λ (x : List A) (k : ℕ). sets x k (f n)) e h
     ∙ sym (sets-append (each f n) (f n) d o)
-    ∙ ap (λ (x : List ℕ). sets d o x) (sym (each_more f n))
+    ∙ ap (λ (x : List A). sets d o x) (sym (each_more f n))
 
 pub set-five : (d : List ℕ) (o x₁ x₂ x₃ x₄ x₅ : ℕ) → set (set (set (set (set d o x₁) (o + 1) x₂) (o + 2) x₃) (o + 3) x₄) (o + 4) x₅ ≡ sets d o (x₁ ∷ x₂ ∷ x₃ ∷ x₄ ∷ x₅ ∷ [])
 set-five d o x₁ x₂ x₃ x₄ x₅ =
@@ -64,6 +64,13 @@ set-five d o x₁ x₂ x₃ x₄ x₅ =
     let e₃ : o + 3 ≡ suc (suc (suc o)) = omega arith in
     let e₄ : o + 4 ≡ suc (suc (suc (suc o))) = omega arith in
     rw (e₁, e₂, e₃, e₄)
+
+-- one item more of s
+pub sets_next : {A : Type 0} (s d l : List A) (o i : ℕ) (x : A) → i < length s → x ≡ get_or s i x → l ≡ sets d o (take i s)
+    → set l (o + i) x ≡ sets d o (take (i + 1) s)
+sets_next s d l o i x h e k =
+    let n : length (take i s) ≡ i = length-take-le i s (omega arith) in
+    rw (add-one i, take-suc s i x h, sets-append (take i s) (get_or s i x ∷ []) d o, n, ← e, k)
 
 -- two lists, where t is the place after the first
 pub sets-after : (p q d : List ℕ) (o t : ℕ) → o + length p ≡ t → sets d o (p ++ q) ≡ sets (sets d o p) t q
@@ -79,7 +86,36 @@ get_d_sets d o vs i h l =
     ∙ ap (λ (k : ℕ). get_or (take o d ++ vs) (k + i) 0) (sym e)
     ∙ get_or-append-add (take o d) vs i 0
 
--- ---- a buffer that is filled piece by piece
+-- ---- a buffer that a `for` fills piece by piece
+
+-- d with f 0, f 1, .. f (j - 1) from place o on: l is the buffer, and w the place after them
+pub record Placed {A : Type 0} (f : ℕ → List A) (d : List A) (o : ℕ) (l : List A) (w j : ℕ) : Type 0 where
+  pub place : w ≡ o + length (each f j)
+  pub items : l ≡ sets d o (each f j)
+
+pub placed_none : {A : Type 0} {f : ℕ → List A} {d : List A} {o : ℕ} → Placed f d o d o 0
+unfolding each
+placed_none {A} {f} {d} {o} = record { place = sym (add-zero o); items = refl }
+
+module _ {A : Type 0} {f : ℕ → List A} {d : List A} {o : ℕ} {l : List A} {w j : ℕ} (i : Placed f d o l w j) where
+  pub placed_length : length l ≡ length d
+  placed_length = ap length i.items ∙ length-sets d o (each f j)
+
+  -- there is room for the next piece, p, where there is room for n
+  pub placed_room : (n : ℕ) {p : List A} → p ≡ f j → j < n → o + length (each f n) ≤ length d → w + length p ≤ length l
+  placed_room n e h r = omega (arith, i.place, placed_length, each-room f j n h, ap length e)
+
+  -- p is put
+  pub placed_more : {p r : List A} {v : ℕ} → p ≡ f j → v ≡ w + length p → r ≡ sets l w p → Placed f d o r v (j + 1)
+  placed_more e h k = record {
+    place = h ∙ rw (each_more, length-append) (omega (arith, i.place, ap length e));
+    items = k ∙ ap (sets l w) e ∙ sets-each f j d l o w i.items i.place;
+  }
+
+  pub placed_all : (n : ℕ) → j ≡ n → Placed f d o l w n
+  placed_all n e = rw e at i
+
+-- ---- the same in a loop that counts its pieces by hand
 
 -- d with the list p from place o on: l is the buffer, and w the place after p
 abbrev pub Holds : List ℕ → ℕ → List ℕ → List ℕ → ℕ → Type 0
@@ -89,17 +125,9 @@ pub holds_none : (f : ℕ → List ℕ) (d : List ℕ) (o : ℕ) → Holds d o (
 unfolding each
 holds_none f d o = (sym (add-zero o), refl)
 
--- the same list in other words has the same room
-pub room_by : (p q : List ℕ) (o n : ℕ) → o + length q ≤ n → p ≡ q → o + length p ≤ n
-room_by p q o n h e = rw e h
-
 module _ (d : List ℕ) (o : ℕ) (p l : List ℕ) (w : ℕ) (h : Holds d o p l w) where
   pub holds_length : length l ≡ length d
   holds_length = ap length h.1 ∙ length-sets d o p
-
-  -- the same list in other words
-  pub holds_by : (q : List ℕ) → p ≡ q → Holds d o q l w
-  holds_by q e = rw e at h
 
 module _ (f : ℕ → List ℕ) (n : ℕ) (d l : List ℕ) (o w : ℕ) (h : Holds d o (each f n) l w) where
   -- one piece more

@@ -1,10 +1,10 @@
 -- Judging four tables: the size by a formula, what the tests tell, and that they pass exactly where the tables are a mesh within the rules.
-use Rattle.std.proofs.Common.{◌≡◌, ℕ, suc, ◌+◌, ◌*◌, ◌/◌, ◌%◌, ◌^◌, ◌<◌, ◌≤◌, Bool, true, false, cond, not, ◌&&◌, ◌||◌, eqb, ltb, leb, ◌⊎◌, List, [], ◌∷◌, length, get_or, drop, sym, refl, ap, ◌∙◌, inl, inr, mul-le-mul, mul-le-mul_left, arith, ltb-true, le-ltb, lt-ltb, eq-eqb, eqb-true, le-leb, leb-true}
+use Rattle.std.proofs.Common.{◌≡◌, ℕ, suc, ◌*◌, ◌/◌, ◌%◌, ◌^◌, ◌<◌, ◌≤◌, Bool, true, false, cond, ◌&&◌, eqb, ltb, leb, List, [], ◌∷◌, length, sym, refl, ap, ◌∙◌, mul-le-mul_left, arith, ltb-true, lt-ltb, eq-eqb, eqb-true, le-leb, leb-true}
 use mathlib.Core.List.Memᴰ
-use borrow.Author.Tests.{lt-leb}
+use Rattle.std.specs.List.{fold}
 use Rattle.bits.specs.Number.{width_of}
 use Rattle.bits.specs.Verdict.{accepted, declined, mapped}
-use Rattle.bits.proofs.VerdictLaws.{le-or-lt, both_true, tested_value}
+use Rattle.bits.proofs.VerdictLaws.{both_true, tested_value}
 use Rattle.payload.specs.Laws.{Words32}
 use Rattle.payload.specs.Mesh.{Mesh}
 use Rattle.payload.specs.Float.{finite_word, AllFinite}
@@ -12,9 +12,8 @@ use Rattle.payload.specs.MeshWrite.{all_of, all_below, box_size, every, is_mesh,
 use Rattle.payload.specs.InternalWriting.{counts_fit, lengths_fit, rows_all_fit, size_of}
 use Rattle.payload.proofs.AllLaws.{All, nil_all, cons_all}
 use Rattle.payload.proofs.BoxLaws.{box_length}
-use Rattle.payload.proofs.RangeLaws.{width_small, width_some}
+use Rattle.payload.proofs.RangeLaws.{width_some}
 use Rattle.payload.proofs.MeshWriteLaws.{Under, Within, mesh_bits}
-use Rattle.payload.proofs.PutRunLaws.{rest-cons, rest-none}
 use Rattle.payload.proofs.RowLaws.{cond_inv, every_inv, not_so, rows_count, rows_made, rows_right, rows_told}
 
 -- ---- the size
@@ -29,36 +28,23 @@ size_is pool coordinates rows points e =
 pub points_least : (q m : ℕ) → 1 ≤ m → q ≤ q * width_of m
 points_least q m h = let p : q * 1 ≤ q * width_of m = mul-le-mul_left q (width_some m h) in omega arith
 
--- coordinate numbers of width a and points of width b take so many bits at most
-pub bits_most : (n v m q a b : ℕ) → (n ≤ 10000) × (v ≤ 200000) × (m ≤ 32000) → q ≤ 536870912 → a ≡ width_of n → b ≡ width_of m → (v * a ≤ 200000 * 16) × (q * b ≤ 536870912 * 16)
-bits_most n v m q a b h i e f =
-    let x : a ≤ 16 = rw e (width_small n (omega (arith, h.0))) in
-    let y : b ≤ 16 = rw f (width_small m h.2) in
-    (mul-le-mul h.1 x, mul-le-mul i y)
-
 -- ---- a test of every number
 
 module _ (test : ℕ → Bool) where
-  -- what was found so far, and what is left, after one number more
-  pub all_on : (l : List ℕ) (i : ℕ) (other b : Bool) → test (get_or l i 0) ≡ not b → i < length l
-      → (not other && all_of test (drop i l)) ≡ (not (other || b) && all_of test (drop (i + 1) l))
+  -- a fold that looks at all of them
+  pub all_folded : (l : List ℕ) → fold (λ b x. b && test x) true l ≡ all_of test l
   unfolding all_of
-  all_on l i other b e h = ap (λ (k : List ℕ). not other && all_of test k) (rest-cons l i h) ∙ go other b e
+  all_folded [] = refl
+  all_folded (x ∷ l) = go (test x) (all_folded l)
     where
-      go : (o b : Bool) → test (get_or l i 0) ≡ not b
-          → (not o && cond (test (get_or l i 0)) (all_of test (drop (i + 1) l)) false)
-          ≡ (not (o || b) && all_of test (drop (i + 1) l))
-      go true b e = refl
-      go false true e = rw e
-      go false false e = rw e
+      lost : (l : List ℕ) → fold (λ b x. b && test x) false l ≡ false
+      lost [] = refl
+      lost (y ∷ l) = lost l
 
-  pub all_end : (l : List ℕ) (i : ℕ) (other : Bool) → length l ≤ i → (not other && all_of test (drop i l)) ≡ not other
-  unfolding all_of
-  all_end l i other h = ap (λ (k : List ℕ). not other && all_of test k) (rest-none l i h) ∙ go other
-    where
-      go : (b : Bool) → (not b && true) ≡ not b
-      go true = refl
-      go false = refl
+      go : (b : Bool) → fold (λ b x. b && test x) true l ≡ all_of test l
+          → fold (λ b x. b && test x) b l ≡ cond b (all_of test l) false
+      go true e = e
+      go false e = lost l
 
   pub all_tested : (l : List ℕ) → all_of test l ≡ true → All (λ x. test x ≡ true) l
   unfolding all_of
@@ -72,13 +58,6 @@ module _ (test : ℕ → Bool) where
   tested_all (x ∷ l) h = rw (h x (Memᴰ.head refl)) (tested_all l (λ y k. h y (Memᴰ.tail k)))
 
 -- ---- numbers below a limit
-
-pub below_test : (x limit : ℕ) → ltb x limit ≡ not (leb limit x)
-below_test x limit = go (le-or-lt limit x)
-  where
-    go : (limit ≤ x) ⊎ (x < limit) → ltb x limit ≡ not (leb limit x)
-    go (inl d) = rw (le-ltb x limit d, le-leb limit x d)
-    go (inr d) = rw (lt-ltb x limit d, lt-leb limit x d)
 
 pub below_under : (limit : ℕ) (l : List ℕ) → all_below limit l ≡ true → Under limit l
 unfolding all_of
@@ -203,19 +182,6 @@ module _ (pool coordinates rows points : List ℕ) where
       let d = u.1 in
       (t.0, cc, all_tested finite_word pool u.0)
 
-  -- the answers of `judge`
-  judged_no : is_mesh pool coordinates rows points ≡ false → declined 13 ≡ mapped length (mesh_written pool coordinates rows points)
-  judged_no e = ap (mapped length) (sym (written_no e))
-
-  pub judged_other : is_mesh pool coordinates rows points ≡ true → all_of finite_word pool ≡ false
-      → declined 17 ≡ mapped length (mesh_written pool coordinates rows points)
-  judged_other e f = ap (mapped length) (sym (written_other e f))
-
-  pub judged_size : (n : ℕ) → is_mesh pool coordinates rows points ≡ true → all_of finite_word pool ≡ true
-      → n ≡ box_size (tables_mesh pool coordinates rows points) → accepted n ≡ mapped length (mesh_written pool coordinates rows points)
-  judged_size n e g f =
-      ap (λ (k : ℕ). accepted k) (f ∙ sym (box_length (tables_mesh pool coordinates rows points))) ∙ ap (mapped length) (sym (written_yes e g))
-
 -- ---- one test that fails, as `judge` finds it
 
 refuse : (b : Bool) → (b ≡ true → ⊥) → b ≡ false
@@ -226,31 +192,54 @@ clash : (b : Bool) → b ≡ true → b ≡ false → ⊥
 clash b e f = not_so (sym f ∙ e)
 
 module _ (pool coordinates rows points : List ℕ) where
+  abbrev Declines : Type 0
+  Declines = declined 13 ≡ mapped length (mesh_written pool coordinates rows points)
+
   -- whatever contradicts what the tests tell
-  pub judged_not : (Told pool coordinates rows points → ⊥) → declined 13 ≡ mapped length (mesh_written pool coordinates rows points)
-  judged_not h = judged_no pool coordinates rows points (refuse (is_mesh pool coordinates rows points) (λ e. h (told pool coordinates rows points e)))
+  judged_not : (Told pool coordinates rows points → ⊥) → Declines
+  judged_not h =
+      ap (mapped length) (sym (written_no pool coordinates rows points
+      (refuse (is_mesh pool coordinates rows points) (λ e. h (told pool coordinates rows points e)))))
 
-  pub counts_no : counts_fit (length pool) (length coordinates) (length rows) ≡ false → Told pool coordinates rows points → ⊥
+  pub counts_no : counts_fit (length pool) (length coordinates) (length rows) ≡ false → Declines
   unfolding counts_fit
-  counts_no f t =
+  counts_no f =
+      judged_not (λ t.
       clash _
-      (simp (le-leb 1 (length pool) t.pool_some, le-leb (length pool) 10000 t.pool_most, eq-eqb (length coordinates % 5) 0 t.fives, le-leb 1 (length coordinates / 5) t.vertex_some, le-leb (length coordinates / 5) 32000 t.vertex_most, le-leb 1 (length rows) t.rows_some)) f
+      (simp (
+        le-leb 1 (length pool) t.pool_some,
+        le-leb (length pool) 10000 t.pool_most,
+        eq-eqb (length coordinates % 5) 0 t.fives,
+        le-leb 1 (length coordinates / 5) t.vertex_some,
+        le-leb (length coordinates / 5) 32000 t.vertex_most,
+        le-leb 1 (length rows) t.rows_some,
+      )) f)
 
-  pub rows_no : rows_all_fit rows (length points) ≡ false → Told pool coordinates rows points → ⊥
-  rows_no f t = clash _ t.rows_fit f
+  pub rows_no : rows_all_fit rows (length points) ≡ false → Declines
+  rows_no f = judged_not (λ t. clash _ t.rows_fit f)
 
-  pub lengths_no : lengths_fit (length rows) (length points) ≡ false → Told pool coordinates rows points → ⊥
+  pub lengths_no : lengths_fit (length rows) (length points) ≡ false → Declines
   unfolding lengths_fit
-  lengths_no f t =
+  lengths_no f =
+      judged_not (λ t.
       let s = size_is pool coordinates rows points t.rows_fit in
       let l = points_least (length points) (length coordinates / 5) t.vertex_some in
-      clash _ (simp (le-leb (length rows) 67108864 (omega (arith, s, t.size)), le-leb (length points) 536870912 (omega (arith, s, l, t.size)))) f
+      clash _
+      (simp (
+        le-leb (length rows) 67108864 (omega (arith, s, t.size)),
+        le-leb (length points) 536870912 (omega (arith, s, l, t.size)),
+      )) f)
 
-  pub coordinates_no : all_below (length pool) coordinates ≡ false → Told pool coordinates rows points → ⊥
-  coordinates_no f t = clash _ t.coordinates_below f
+  pub size_no : (size : ℕ) → rows_all_fit rows (length points) ≡ true
+      → size ≡ size_of (length pool) (length coordinates) (length coordinates / 5) (length rows / 3) (length points)
+      → 67108864 < size → Declines
+  size_no size r s h = judged_not (λ t. omega (arith, t.size, size_is pool coordinates rows points r))
 
-  pub points_no : all_below (length coordinates / 5) points ≡ false → Told pool coordinates rows points → ⊥
-  points_no f t = clash _ t.points_below f
+  pub coordinates_no : all_below (length pool) coordinates ≡ false → Declines
+  coordinates_no f = judged_not (λ t. clash _ t.coordinates_below f)
+
+  pub points_no : all_below (length coordinates / 5) points ≡ false → Declines
+  points_no f = judged_not (λ t. clash _ t.points_below f)
 
 -- ---- and all that pass
 
@@ -279,14 +268,14 @@ lengths_told k q e =
     (leb-true k 67108864 a.0, leb-true q 536870912 a.1)
 
 module _ (pool coordinates rows points : List ℕ) (size : ℕ) (r : rows_all_fit rows (length points) ≡ true)
-    (s : size ≡ size_of (length pool) (length coordinates) (length coordinates / 5) (length rows / 3) (length points)) where
-  pub box_told : size ≡ box_size (tables_mesh pool coordinates rows points)
+    (s : size ≡ size_of (length pool) (length coordinates) (length coordinates / 5) (length rows / 3) (length points))
+    (c : counts_fit (length pool) (length coordinates) (length rows) ≡ true) (most : size ≤ 67108864)
+    (a : all_below (length pool) coordinates ≡ true) (b : all_below (length coordinates / 5) points ≡ true) where
+  box_told : size ≡ box_size (tables_mesh pool coordinates rows points)
   box_told = s ∙ sym (size_is pool coordinates rows points r)
 
-  pub all_told : counts_fit (length pool) (length coordinates) (length rows) ≡ true → size ≤ 67108864
-      → all_below (length pool) coordinates ≡ true → all_below (length coordinates / 5) points ≡ true
-      → is_mesh pool coordinates rows points ≡ true
-  all_told c most a b =
+  all_told : is_mesh pool coordinates rows points ≡ true
+  all_told =
       let t = counts_told (length pool) (length coordinates) (length rows) c in
       let n = box_told in
       passes pool coordinates rows points
@@ -303,6 +292,10 @@ module _ (pool coordinates rows points : List ℕ) (size : ℕ) (r : rows_all_fi
         size = rw (← n) most;
       })
 
-pub size_no : (pool coordinates rows points : List ℕ) (size : ℕ) → rows_all_fit rows (length points) ≡ true
-    → size ≡ size_of (length pool) (length coordinates) (length coordinates / 5) (length rows / 3) (length points) → 67108864 < size → Told pool coordinates rows points → ⊥
-size_no pool coordinates rows points size r s h t = omega (arith, t.size, size_is pool coordinates rows points r)
+  pub not_finite : all_of finite_word pool ≡ false → declined 17 ≡ mapped length (mesh_written pool coordinates rows points)
+  not_finite f = ap (mapped length) (sym (written_other pool coordinates rows points all_told f))
+
+  pub all_passed : all_of finite_word pool ≡ true → accepted size ≡ mapped length (mesh_written pool coordinates rows points)
+  all_passed f =
+      ap accepted (box_told ∙ sym (box_length (tables_mesh pool coordinates rows points)))
+      ∙ ap (mapped length) (sym (written_yes pool coordinates rows points all_told f))

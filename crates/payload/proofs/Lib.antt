@@ -17,6 +17,7 @@ pub mod CropProofs
 pub mod SphereMarked
 pub mod CubeMarked
 pub mod FloatLaws
+pub mod FloatTests
 pub mod NanProofs
 pub mod StepLaws
 pub mod PartLaws
@@ -38,6 +39,7 @@ pub mod DrawLaws
 pub mod ExpandedLaws
 pub mod RecordLaws
 pub mod PlaceLaws
+pub mod NextLaws
 pub mod StandingLaws
 pub mod StandingProofs
 pub mod FirstsLaws

@@ -1,5 +1,5 @@
 -- The fields that are written stand where the layout has them, and the other way round.
-use Rattle.std.proofs.Common.{◌≡◌, ℕ, zero, suc, ◌+◌, ◌-◌, ◌*◌, ◌/◌, ◌%◌, ◌^◌, ◌<◌, ◌≤◌, List, [], ◌∷◌, ◌++◌, length, get_or, sym, refl, ap, ◌∙◌, subst, ap₂, suc-le-suc, le_of_suc-le-suc, arith, le-leb}
+use Rattle.std.proofs.Common.{min, ◌≡◌, ℕ, zero, suc, ◌+◌, ◌-◌, ◌*◌, ◌/◌, ◌%◌, ◌^◌, ◌<◌, ◌≤◌, List, [], ◌∷◌, ◌++◌, length, get_or, sym, refl, ap, ◌∙◌, subst, ap₂, suc-le-suc, le_of_suc-le-suc, arith, le-leb}
 use borrow.Author.Tests.{lt-leb}
 use native.Mathlib.Decide.{dec_le}
 use Rattle.bits.specs.Field.{field}
@@ -72,17 +72,25 @@ step_fits n last next hl hn = go (dec_le last next)
     go (no h) = omega (arith, step_down last next (omega arith))
 
 -- twice the step, modulo 2^32, or its complement
-pub step_least : (last next twice : ℕ) → last < 65536 → next < 65536 → twice ≤ 4294967295 → (twice + 2 * last) % 4294967296 ≡ 2 * next
-    → (4294967295 - twice < twice → 4294967295 - twice ≡ step_field last next) × (twice ≤ 4294967295 - twice → twice ≡ step_field last next)
+step_least : (last next twice : ℕ) → last < 65536 → next < 65536 → twice ≤ 4294967295
+    → (twice + 2 * last) % 4294967296 ≡ 2 * next → min twice (4294967295 - twice) ≡ step_field last next
 step_least last next twice a b c e = go (dec_le last next)
   where
-    go : Dec (last ≤ next) → (4294967295 - twice < twice → 4294967295 - twice ≡ step_field last next) × (twice ≤ 4294967295 - twice → twice ≡ step_field last next)
-    go (yes h) = (λ l. omega (arith, step-up last next h), λ l. omega (arith, step-up last next h))
+    go : Dec (last ≤ next) → min twice (4294967295 - twice) ≡ step_field last next
+    go (yes h) = omega (arith, step-up last next h)
     go (no h) =
         let d : next < last = omega arith in
         let q : (twice + 2 * last) / 4294967296 ≡ 1 = omega arith in
         let m : twice + 2 * last ≡ 4294967296 + 2 * next = omega arith in
-        (λ l. omega (arith, step_down last next d), λ l. absurd (omega arith))
+        omega (arith, step_down last next d)
+
+module _ (last next twice : ℕ) (a : last < 65536) (b : next < 65536) (c : twice ≤ 4294967295)
+    (e : (twice + 2 * last) % 4294967296 ≡ 2 * next) where
+  pub step_complement : 4294967295 - twice < twice → 4294967295 - twice ≡ step_field last next
+  step_complement h = omega (arith, step_least last next twice a b c e)
+
+  pub step_twice : twice ≤ 4294967295 - twice → twice ≡ step_field last next
+  step_twice h = omega (arith, step_least last next twice a b c e)
 
 -- ---- words
 

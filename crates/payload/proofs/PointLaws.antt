@@ -1,5 +1,5 @@
 -- The words of points: how a run's are stored piece by piece, and that two ways to them agree. Assumes nothing.
-use Rattle.std.proofs.Common.{◌≡◌, ℕ, zero, suc, ◌+◌, ◌-◌, ◌*◌, ◌<◌, ◌≤◌, List, [], ◌∷◌, ◌++◌, length, get_or, sym, refl, ap, ◌∙◌, ap₂, append_assoc, arith}
+use Rattle.std.proofs.Common.{◌≡◌, ℕ, zero, suc, ◌+◌, ◌-◌, ◌*◌, ◌<◌, ◌≤◌, min, List, [], ◌∷◌, ◌++◌, length, get_or, drop, sym, refl, ap, ◌∙◌, ap₂, append_assoc, arith}
 use lib.Seq.{sets}
 use Rattle.bits.specs.Run.{Found, read_run, last_of, summed}
 use Rattle.bits.proofs.RunLaws.{run_spells}
@@ -7,19 +7,13 @@ use Rattle.bits.proofs.SummedLaws.{length_summed, run_part, last_at}
 use Rattle.payload.specs.Mesh.{Submesh}
 use Rattle.payload.specs.MeshSpells.{submesh_bits, SubmeshesSpell}
 use Rattle.payload.specs.MeshDrawing.{point_words, run_words, submesh_words}
-use Rattle.payload.specs.Internal.{WasRead, run_numbers, word_at, Pooled, PointsBelow}
+use Rattle.payload.specs.Internal.{WasRead, run_numbers, word_at, PointsBelow}
 use Rattle.payload.proofs.FillLaws.{sets-after}
 use Rattle.payload.proofs.StepLaws.{read_value}
 use Rattle.payload.proofs.MeasureLaws.{run_floats}
+use Rattle.payload.proofs.PutRunLaws.{rest-cons, rest-none}
 
 -- ---- points
-
-pooled_part : {s numbers : List ℕ} {k n : ℕ} (j i : ℕ) → k ≤ j → j + i ≤ k + n → Pooled s numbers k n → Pooled s numbers j i
-pooled_part j i a b p = record { there = omega (arith, p.there); inside = λ h l u. p.inside h (omega arith) (omega arith) }
-
--- the coordinate numbers of a vertex below m
-pub pooled_point : {s numbers : List ℕ} {base m : ℕ} (v : ℕ) → v < m → Pooled s numbers base (5 * m) → Pooled s numbers (base + 5 * v) 5
-pooled_point {base = base} v l p = pooled_part (base + 5 * v) 5 (omega arith) (omega arith) p
 
 module _ (f : ℕ → ℕ) (base : ℕ) where
   pub run_none : (l : List ℕ) → l ≡ [] → run_words f base l ≡ []
@@ -30,6 +24,17 @@ module _ (f : ℕ → ℕ) (base : ℕ) where
   pub point_first : (v : ℕ) (l m d : List ℕ) (o : ℕ) → l ≡ v ∷ m → sets d o (run_words f base l) ≡ sets (sets d o (point_words f (base + 5 * v))) (o + 5) (run_words f base m)
   unfolding run_words
   point_first v l m d o e = rw e (sets-after (point_words f (base + 5 * v)) (run_words f base m) d o (o + 5) refl)
+
+  -- point i's words are stored at its place, and those of the points after it are left
+  pub points_first : (l : List ℕ) (i : ℕ) (d d' : List ℕ) (o o' : ℕ) → i < length l → o' ≡ o + 5
+      → d' ≡ sets d o (point_words f (base + 5 * get_or l i 0))
+      → sets d o (run_words f base (drop i l)) ≡ sets d' o' (run_words f base (drop (i + 1) l))
+  points_first l i d d' o o' h e k =
+      point_first (get_or l i 0) (drop i l) (drop (i + 1) l) d o (rest-cons l i h) ∙ rw (e, k)
+
+  -- and of the points after the last none
+  pub points_end : (l : List ℕ) (i : ℕ) (d : List ℕ) (o : ℕ) → length l ≤ i → d ≡ sets d o (run_words f base (drop i l))
+  points_end l i d o h = ap (sets d o) (sym (run_none (drop i l) (rest-none l i h)))
 
   -- the words of two runs, one after the other
   pub run_append : (l m : List ℕ) → run_words f base (l ++ m) ≡ run_words f base l ++ run_words f base m
@@ -75,6 +80,13 @@ next_points s w m left bit last n h o l r =
       rest = rw P.rest tt;
       small = rw (last_at last (summed s w n bit (last ∷ [])) n z o) (P.below (n - 1) (omega arith));
     }
+
+-- those that are drawn at once
+pub drawn_next : {s : List ℕ} {w m : ℕ} {numbers : List ℕ} {base : ℕ} {words₀ all words : List ℕ} {bit last left o : ℕ}
+    → RunLeft s w m numbers base words₀ all words bit last left o → (n : ℕ) → m ≤ 65536 → 0 < left → n ≡ min left 64
+    → NextPoints s w m left bit last n
+drawn_next {s} {w} {m} {bit = bit} {last = last} {left = left} L n h k e =
+    next_points s w m left bit last n h (omega arith) (omega arith) L.read
 
 -- no field is left
 pub numbers_end : (s : List ℕ) (w limit n p : ℕ) (prior : List ℕ) → n ≤ 0 → run_numbers (read_run s w limit n p prior) ≡ []

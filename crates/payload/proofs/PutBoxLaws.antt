@@ -14,7 +14,7 @@ use Rattle.payload.proofs.BoxLaws.{mesh_fit}
 use Rattle.payload.proofs.JudgeLaws.{mesh_within, told}
 use Rattle.payload.proofs.MeshWriteLaws.{Within}
 use Rattle.payload.proofs.PackedLaws.{bits-append, packed_same}
-use Rattle.payload.proofs.WriterLaws.{Underway, packed_bytes}
+use Rattle.payload.proofs.WriterLaws.{Underway, on_first, on_start, on_step, packed_bytes, with_nil}
 
 abbrev pub start : BitWriter
 start = record { at = 0; held = 0; bits = 0 }
@@ -61,35 +61,74 @@ last_at x out o a l i t g = omega (arith, g.place, i, t)
 
 -- ---- where a box is, after each of its parts
 
-module _ (pool coordinates rows points out : List ℕ) (size : ℕ)
-    (e : is_mesh pool coordinates rows points ≡ true) (n : size ≡ box_size (tables_mesh pool coordinates rows points)) (room : size ≤ length out) (words : Words32 pool) where
-  abbrev pub part_rest : List Field
-  part_rest = gap (bits (vertex_fields (tables_mesh pool coordinates [] []))) ∷ (32, length (submeshes_of rows points)) ∷ submeshes_fields (width_of (length coordinates / 5)) (submeshes_of rows points)
+-- the box of tables that are a mesh can be put into a buffer
+pub record CanPut (pool coordinates rows points out : List ℕ) (size : ℕ) : Type 0 where
+  pub mesh : is_mesh pool coordinates rows points ≡ true
+  pub size_is : size ≡ box_size (tables_mesh pool coordinates rows points)
+  pub room : size ≤ length out
+  pub words : Words32 pool
 
-  abbrev pub part_all : List Field
-  part_all = (32, size) ∷ (32, mesh_type) ∷ (vertex_fields (tables_mesh pool coordinates [] []) ++ part_rest)
+module _ {pool coordinates rows points out : List ℕ} {size : ℕ} (b : CanPut pool coordinates rows points out size) where
+  abbrev made : Mesh
+  made = tables_mesh pool coordinates rows points
 
-  all_is : box_fields (tables_mesh pool coordinates rows points) ≡ part_all
+  abbrev head_part : List Field
+  head_part = vertex_fields (tables_mesh pool coordinates [] [])
+
+  abbrev rest_part : List Field
+  rest_part =
+      gap (bits head_part) ∷ (32, length (submeshes_of rows points))
+      ∷ submeshes_fields (width_of (length coordinates / 5)) (submeshes_of rows points)
+
+  abbrev all_parts : List Field
+  all_parts = (32, size) ∷ (32, mesh_type) ∷ (head_part ++ rest_part)
+
+  all_is : box_fields made ≡ all_parts
   unfolding mesh_fields vertex_fields
-  all_is = ap (λ (k : ℕ). (32, k) ∷ (32, mesh_type) ∷ mesh_fields (tables_mesh pool coordinates rows points)) (sym n)
+  all_is = ap (λ (k : ℕ). (32, k) ∷ (32, mesh_type) ∷ mesh_fields made) (sym b.size_is)
 
-  pub start_ready : Ready out start part_all
-  start_ready = subst (Ready out start) all_is (box_ready (tables_mesh pool coordinates rows points) (mesh_within pool coordinates rows points words e) out (rw n at room))
+  box_within : Within made
+  box_within = mesh_within pool coordinates rows points b.words b.mesh
 
-  pub rest_here : {o : List ℕ} {a : BitWriter} → Underway out start part_all o a part_rest → Underway out start part_all o a (rest_fields a.bits (length coordinates / 5) (submeshes_of rows points))
+  -- the way from the start on, with some fields left
+  abbrev pub Way : List ℕ → BitWriter → List Field → Type 0
+  Way o a l = Underway out start all_parts o a l
+
+  pub at_start : Way out start all_parts
+  at_start = on_start (subst (Ready out start) all_is (box_ready made box_within out (rw b.size_is at b.room)))
+
+  -- after the size and the type
+  pub after_header : {o p : List ℕ} {a d : BitWriter} → Advances out start ((32, size) ∷ []) o a []
+      → Advances o a ((32, mesh_type) ∷ []) p d [] → Way p d (head_part ++ rest_part)
+  after_header s t = on_first _ _ (on_first _ _ at_start s) t
+
+  -- after the vertices: the gap is that of the bits that wait
+  pub after_vertices : {o p : List ℕ} {a d : BitWriter} → Way o a (head_part ++ rest_part) → Advances o a head_part p d []
+      → Way p d (rest_fields d.bits (length coordinates / 5) (submeshes_of rows points))
   unfolding mesh_fields vertex_fields
-  rest_here {o} {a} w =
-      let g : Advances out start (box_fields (tables_mesh pool coordinates rows points)) o a part_rest = subst (λ (l : List Field). Advances out start l o a part_rest) (sym all_is) w.1 in
-      let s : spare (bits (vertex_fields (tables_mesh pool coordinates rows points))) ≡ spare a.bits =
-      gap_here (tables_mesh pool coordinates rows points) (mesh_within pool coordinates rows points words e) out (rw n at room) part_rest refl g in
-      subst (λ (k : ℕ). Underway out start part_all o a ((k, 0) ∷ (32, length (submeshes_of rows points)) ∷ submeshes_fields (width_of (length coordinates / 5)) (submeshes_of rows points))) s w
+  after_vertices {p = p} {d = d} u t =
+      let w = on_step head_part rest_part u t in
+      let g : Advances out start (box_fields made) p d rest_part =
+      subst (λ (l : List Field). Advances out start l p d rest_part) (sym all_is) w.1 in
+      let s : spare (bits (vertex_fields made)) ≡ spare d.bits =
+      gap_here made box_within out (rw b.size_is at b.room) rest_part refl g in
+      subst
+      (λ (k : ℕ).
+      Way p d ((k, 0) ∷ (32, length (submeshes_of rows points))
+      ∷ submeshes_fields (width_of (length coordinates / 5)) (submeshes_of rows points)))
+      s w
 
-  pub box_is : {o : List ℕ} {a : BitWriter} → Underway out start part_all o a [] → outcome o a [] ≡ sets out 0 (mesh_box (tables_mesh pool coordinates rows points))
-  box_is {o} {a} w =
+  -- after all of them
+  pub after_all : {o p : List ℕ} {a d : BitWriter} {l : List Field} → Way o a l → Advances o a l p d [] → Way p d []
+  after_all w t = on_step _ _ (with_nil w) t
+
+  pub box_is : {o : List ℕ} {a : BitWriter} → Way o a [] → outcome o a [] ≡ sets out 0 (mesh_box made)
+  box_is w =
       w.1.same [] tt
       ∙ ap (λ (l : List Field). outcome out start (l ++ [])) (sym all_is)
-      ∙ box_done (tables_mesh pool coordinates rows points) (mesh_within pool coordinates rows points words e) out (rw n at room)
+      ∙ box_done made box_within out (rw b.size_is at b.room)
 
-  pub end_at_lem : {o : List ℕ} {a : BitWriter} → Underway out start part_all o a [] → a.at ≤ 67108864
-  end_at_lem {o} {a} w =
-      last_at (tables_mesh pool coordinates rows points) out o a part_all (ap bits (sym all_is) ∙ header_bits (tables_mesh pool coordinates rows points)) (told pool coordinates rows points e).size w.1
+  pub end_at_most : {o : List ℕ} {a : BitWriter} → Way o a [] → a.at ≤ 67108864
+  end_at_most {o} {a} w =
+      last_at made out o a all_parts (ap bits (sym all_is) ∙ header_bits made)
+      (told pool coordinates rows points b.mesh).size w.1

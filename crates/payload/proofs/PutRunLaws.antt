@@ -80,6 +80,11 @@ past_long n l = length-append (zeros n) l ∙ ap (λ (k : ℕ). k + length l) (z
 pub zeros_some : (n : ℕ) → 1 ≤ n → 0 < length (zeros n)
 zeros_some n h = rw (zeros-length n) h
 
-pub run_next : (w : ℕ) (past ns : List ℕ) (i v last : ℕ) → i < length past → i < length ns → last ≡ get_or past i 0 → v ≡ step_field last (get_or ns i 0)
-    → coded w (drop i past) (drop i ns) ≡ (w, v) ∷ coded w (drop (i + 1) past) (drop (i + 1) ns)
-run_next w past ns i v last h g e f = coded_first w past ns i h g ∙ ap (λ (x : ℕ). (w, x) ∷ coded w (drop (i + 1) past) (drop (i + 1) ns)) (sym (f ∙ ap (λ (y : ℕ). step_field y (get_or ns i 0)) e))
+-- the next number of a run with n running numbers, and those behind it
+pub run_next : (w n : ℕ) (ns : List ℕ) (i v last : ℕ) → i < length ns → last ≡ get_or (zeros n ++ ns) i 0
+    → v ≡ step_field last (get_or ns i 0)
+    → coded w (drop i (zeros n ++ ns)) (drop i ns) ≡ (w, v) ∷ coded w (drop (i + 1) (zeros n ++ ns)) (drop (i + 1) ns)
+run_next w n ns i v last h e f =
+    coded_first w (zeros n ++ ns) ns i (omega (arith, past_long n ns)) h
+    ∙ ap (λ (x : ℕ). (w, x) ∷ coded w (drop (i + 1) (zeros n ++ ns)) (drop (i + 1) ns))
+    (sym (f ∙ ap (λ (y : ℕ). step_field y (get_or ns i 0)) e))

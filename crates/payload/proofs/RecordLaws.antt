@@ -1,23 +1,21 @@
 -- What the walk that stores records learns of a mesh list that was read, and that it stores the list's records piece by piece. Assumes nothing.
 use Rattle.std.proofs.Common.{◌≡◌, ℕ, suc, ◌+◌, ◌*◌, ◌<◌, ◌≤◌, Bool, true, false, cond, eqb, List, [], ◌∷◌, ◌++◌, length, sym, refl, ap, ◌∙◌, append_assoc, append-nil, arith, length-append}
 use lib.Seq.{sets}
-use Rattle.bits.specs.Verdict.{accepted}
-use Rattle.bits.specs.Header.{list_end, header_at}
 use Rattle.payload.specs.Mesh.{Submesh, Mesh}
-use Rattle.payload.specs.MeshSpells.{mesh_type}
 use Rattle.payload.specs.MeshRead.{read_meshes}
 use Rattle.payload.specs.MeshDrawing.{submesh_records, point_count, records_from, first_eye, drawn_records, point_total}
 use Rattle.payload.specs.Records.{records_in, point_sum}
-use Rattle.payload.specs.Internal.{WasRead, value_or, any_from, submeshes_of, Taken, mesh_read, box_read, meshes_from, RecordRoom, after_records}
+use Rattle.payload.specs.Internal.{WasRead, value_or, submeshes_of, mesh_read, meshes_from, RecordRoom, after_records}
 use Rattle.payload.specs.declared.mesh.head.Head.{Head}
-use Rattle.payload.specs.declared.mesh.submeshes.Submeshes.{Submeshes}
-use Rattle.payload.specs.declared.mesh.submeshes.NextSubmesh.{NextSubmesh}
+use Rattle.payload.specs.declared.mesh.submeshes.TakenSubmesh.{TakenSubmesh}
+use Rattle.payload.specs.declared.mesh.submeshes.SubmeshWalk.{SubmeshWalk}
+use Rattle.payload.specs.InternalWalk.{submeshes_in, Taken}
 use Rattle.payload.specs.declared.mesh.records.RecordPlace.{RecordPlace}
 use Rattle.payload.proofs.FillLaws.{sets-append}
 use Rattle.payload.proofs.StepLaws.{read_value}
-use Rattle.payload.proofs.MeshTheorems.{any_read, any_was}
+use Rattle.payload.proofs.MeshTheorems.{any_read}
 use Rattle.payload.proofs.MeasureLaws.{records_on, list_fits}
-use Rattle.payload.proofs.TurnLaws.{taken_stored, box_skipped, BoxTurn, list_end_lem}
+use Rattle.payload.proofs.TurnLaws.{taken_stored}
 use Rattle.payload.proofs.HeadLaws.{HeadKnown}
 
 -- ---- submeshes
@@ -27,9 +25,9 @@ unfolding submesh_records
 records-none eye first l e = rw e
 
 -- the record of a submesh was stored, and the others' are left
-pub record_stored : {s : List ℕ} {all : Submeshes} {r : NextSubmesh} → Taken s all r → (mesh first : ℕ) (d d' : List ℕ) (at : ℕ)
+pub record_stored : {w t : SubmeshWalk} {r : TakenSubmesh} → Taken w r t → (mesh first : ℕ) (d d' : List ℕ) (at : ℕ)
     → d' ≡ sets d at (mesh ∷ r.texture ∷ r.mode ∷ first ∷ r.run.count ∷ [])
-    → sets d at (submesh_records mesh first (submeshes_of s all)) ≡ sets d' (at + 5) (submesh_records mesh (first + r.run.count) (submeshes_of s r.rest))
+    → sets d at (submesh_records mesh first (submeshes_in w)) ≡ sets d' (at + 5) (submesh_records mesh (first + r.run.count) (submeshes_in t))
 unfolding submesh_records
 record_stored {r = r} T mesh first d d' at e =
     taken_stored T (submesh_records mesh first) (submesh_records mesh (first + r.run.count)) (mesh ∷ r.texture ∷ r.mode ∷ first ∷ r.run.count ∷ []) (λ l. ap (λ (k : ℕ). mesh ∷ r.texture ∷ r.mode ∷ first ∷ k ∷ submesh_records mesh (first + k) l) (sym T.count)) d d' at (at + 5) e refl
@@ -60,18 +58,7 @@ module _ {s : List ℕ} {h : Head} (K : HeadKnown s h) (to : RecordPlace) where
       → d' ≡ sets d to.at (records_from to.eye to.first (mesh_read s ∷ []))
   mesh_recorded d d' e = e ∙ rw (K.are, one_record to.eye to.first (mesh_read s))
 
--- ---- boxes
-
--- a box of another type leaves all as it was
-pub box_recorded_none : (s : List ℕ) (type body end : ℕ) → (type ≡ mesh_type → ⊥) → (to : RecordPlace) (d : List ℕ)
-    → (to ≡ after_records to (box_read s type body end)) × (d ≡ sets d to.at (records_from to.eye to.first (box_read s type body end)))
-unfolding records_from
-box_recorded_none s type body end n to d =
-    let x : to.eye + 0 ≡ to.eye = omega arith in
-    let y : to.first + 0 ≡ to.first = omega arith in
-    let z : to.at + 0 ≡ to.at = omega arith in
-    let i : box_read s type body end ≡ [] = ap (value_or []) (box_skipped s type body end n) in
-    rw i (rw (x, y, z) refl, refl)
+-- ---- one mesh after the other
 
 points_append : (a b : List Mesh) → point_total (a ++ b) ≡ point_total a + point_total b
 points_append [] b = omega arith
@@ -93,10 +80,9 @@ records-append eye first (x ∷ a) b =
     ∙ sym (append_assoc l (records_from (eye + 1) (first + p) a) (records_from (eye + suc (length a)) (first + (p + point_total a)) b))
 
 -- what a loop that stores records keeps: storing the records that are left gives the same as storing all at first
-pub record RecordsLeft (s rec₀ rec : List ℕ) (at : ℕ) (to : RecordPlace) : Type 0 where
-  pub same : sets rec₀ 0 (drawn_records (meshes_from s 0)) ≡ sets rec to.at (records_from to.eye to.first (meshes_from s at))
-  pub read : WasRead (any_from s at)
-  pub room : RecordRoom (meshes_from s at) to (length rec)
+pub record RecordsLeft (all : List Mesh) (rec₀ rec : List ℕ) (left : List Mesh) (to : RecordPlace) : Type 0 where
+  pub same : sets rec₀ 0 (drawn_records all) ≡ sets rec to.at (records_from to.eye to.first left)
+  pub room : RecordRoom left to (length rec)
   pub long : length rec ≡ length rec₀
 
 eye_small : (n : ℕ) → first_eye n ≤ 1
@@ -109,7 +95,7 @@ eye_small n = go (eqb n 2)
 
 -- at its start: meshes and points take a bit or more each, so that their numbers fit words
 pub records-start : (s rec : List ℕ) (eye : ℕ) → eye ≡ first_eye (length (meshes_from s 0)) → length s ≤ 67108864 → WasRead (read_meshes s)
-    → length (drawn_records (meshes_from s 0)) ≤ length rec → RecordsLeft s rec rec 0 (record { eye = eye; first = 0; at = 0 })
+    → length (drawn_records (meshes_from s 0)) ≤ length rec → RecordsLeft (meshes_from s 0) rec rec (meshes_from s 0) (record { eye = eye; first = 0; at = 0 })
 records-start s rec eye i h r l =
     let v = read_value (read_meshes s) r in
     let e : meshes_from s 0 ≡ v.0 = ap (value_or []) (any_read s v.0 v.1) in
@@ -117,7 +103,6 @@ records-start s rec eye i h r l =
     rw i
     (record {
       same = refl;
-      read = any_was s r;
       room =
           record {
             records = omega arith;
@@ -127,38 +112,45 @@ records-start s rec eye i h r l =
       long = refl;
     })
 
-module _ {s rec₀ rec : List ℕ} {at : ℕ} {to : RecordPlace} (L : RecordsLeft s rec₀ rec at to) where
-  pub records_end : header_at s at ≡ accepted list_end → rec ≡ sets rec₀ 0 (drawn_records (meshes_from s 0))
+module _ {all left : List Mesh} {rec₀ rec : List ℕ} {to : RecordPlace} (L : RecordsLeft all rec₀ rec left to) where
+  pub records_end : left ≡ [] → rec ≡ sets rec₀ 0 (drawn_records all)
   unfolding records_from
-  records_end h = sym (L.same ∙ ap (λ (l : List Mesh). sets rec to.at (records_from to.eye to.first l)) (list_end_lem s at h))
+  records_end h = sym (L.same ∙ ap (λ (l : List Mesh). sets rec to.at (records_from to.eye to.first l)) h)
 
-  module _ (type body end : ℕ) (T : BoxTurn s at type body end) where
-    records_are : records_from to.eye to.first (meshes_from s at)
-        ≡ records_from to.eye to.first (box_read s type body end) ++ records_from (to.eye + length (box_read s type body end)) (to.first + point_total (box_read s type body end)) (meshes_from s end)
-    records_are = ap (records_from to.eye to.first) T.is ∙ records-append to.eye to.first (box_read s type body end) (meshes_from s end)
+  module _ {x : Mesh} {rest : List Mesh} (e : left ≡ x ∷ rest) where
+    abbrev next : RecordPlace
+    next = after_records to (x ∷ [])
 
-    records_sum : length (records_from to.eye to.first (meshes_from s at))
-        ≡ length (records_from to.eye to.first (box_read s type body end)) + length (records_from (to.eye + length (box_read s type body end)) (to.first + point_total (box_read s type body end)) (meshes_from s end))
-    records_sum = ap length records_are ∙ length-append (records_from to.eye to.first (box_read s type body end)) _
+    records_are : records_from to.eye to.first left ≡ records_from to.eye to.first (x ∷ []) ++ records_from next.eye next.first rest
+    records_are = ap (records_from to.eye to.first) e ∙ records-append to.eye to.first (x ∷ []) rest
 
-    meshes_sum : length (meshes_from s at) ≡ length (box_read s type body end) + length (meshes_from s end)
-    meshes_sum = ap length T.is ∙ length-append (box_read s type body end) (meshes_from s end)
+    records_sum : length (records_from to.eye to.first left)
+        ≡ length (records_from to.eye to.first (x ∷ [])) + length (records_from next.eye next.first rest)
+    records_sum = ap length records_are ∙ length-append (records_from to.eye to.first (x ∷ [])) _
 
-    points_sum : point_total (meshes_from s at) ≡ point_total (box_read s type body end) + point_total (meshes_from s end)
-    points_sum = ap point_total T.is ∙ points_append (box_read s type body end) (meshes_from s end)
+    points_sum : point_total left ≡ point_total (x ∷ []) + point_total rest
+    points_sum = ap point_total e ∙ points_append (x ∷ []) rest
 
-    pub records_room : RecordRoom (box_read s type body end) to (length rec)
+    pub records_room : RecordRoom (x ∷ []) to (length rec)
     records_room =
-        record { records = omega (arith, L.room.records, records_sum); meshes = omega (arith, L.room.meshes, meshes_sum); points = omega (arith, L.room.points, points_sum) }
+        record {
+          records = omega (arith, L.room.records, records_sum);
+          meshes = omega (arith, L.room.meshes, ap length e);
+          points = omega (arith, L.room.points, points_sum);
+        }
 
-    pub records_on_box : (rec' : List ℕ) (to' : RecordPlace) → length rec' ≡ length rec → rec' ≡ sets rec to.at (records_from to.eye to.first (box_read s type body end))
-        → to' ≡ after_records to (box_read s type body end) → RecordsLeft s rec₀ rec' end to'
-    records_on_box rec' to' a c e =
-        rw e
+    pub records_on_mesh : (rec' : List ℕ) (to' : RecordPlace) → length rec' ≡ length rec → rec' ≡ sets rec to.at (records_from to.eye to.first (x ∷ []))
+        → to' ≡ next → RecordsLeft all rec₀ rec' rest to'
+    records_on_mesh rec' to' a c d =
+        rw d
         (record {
-          same = L.same ∙ rw (records_are, c) (sets-append (records_from to.eye to.first (box_read s type body end)) _ rec to.at);
-          read = T.rest;
-          room = record { records = omega (arith, L.room.records, records_sum); meshes = omega (arith, L.room.meshes, meshes_sum); points = omega (arith, L.room.points, points_sum) };
+          same = L.same ∙ rw (records_are, c) (sets-append (records_from to.eye to.first (x ∷ [])) _ rec to.at);
+          room =
+              record {
+                records = omega (arith, a, L.room.records, records_sum);
+                meshes = omega (arith, L.room.meshes, ap length e);
+                points = omega (arith, L.room.points, points_sum);
+              };
           long = a ∙ L.long;
         })
 

@@ -1,5 +1,5 @@
 -- Rows of the submesh table: as a loop takes them, what those that fit make, and that they fit exactly where refusal 13 lets them pass.
-use Rattle.std.proofs.Common.{◌≡◌, ℕ, zero, suc, ◌+◌, ◌-◌, ◌*◌, ◌/◌, ◌%◌, ◌<◌, ◌≤◌, Bool, true, false, cond, eqb, leb, List, [], ◌∷◌, ◌++◌, length, get_or, take, drop, sym, refl, ap, ◌∙◌, add-mul, arith, length-drop, length-take-le, get_or-drop, drop-drop, eq-eqb, eqb-true, le-leb, leb-true}
+use Rattle.std.proofs.Common.{◌≡◌, ℕ, zero, suc, ◌+◌, ◌-◌, ◌*◌, ◌/◌, ◌%◌, ◌<◌, ◌≤◌, Bool, true, false, cond, ◌&&◌, eqb, leb, List, [], ◌∷◌, ◌++◌, length, get_or, take, drop, sym, refl, ap, ◌∙◌, add-mul, mul-le-mul_left, arith, length-drop, length-take-le, eq-eqb, eqb-true, le-leb, leb-true}
 use Rattle.bits.specs.Number.{width_of}
 use Rattle.payload.specs.Mesh.{Submesh}
 use Rattle.payload.specs.MeshSpells.{sizes, submesh_bits}
@@ -8,7 +8,6 @@ use Rattle.payload.specs.MeshWrite.{every, row_points, row_within, rows_within, 
 use Rattle.payload.specs.InternalWriting.{row_fits, rows_all_fit}
 use Rattle.payload.proofs.RangeLaws.{width_small}
 use Rattle.payload.proofs.MeshWriteLaws.{Each, SubmeshWithin, Under}
-use Rattle.payload.proofs.PutRunLaws.{rest-cons, rest-none}
 
 -- ---- tests together
 
@@ -23,14 +22,6 @@ every_inv false l e = not_so e
 pub cond_inv : (a b : Bool) → cond a b false ≡ true → (a ≡ true) × (b ≡ true)
 cond_inv true b e = (refl, e)
 cond_inv false b e = not_so e
-
--- one test that fails
-pub every_no : (l : List Bool) (i : ℕ) → get_or l i true ≡ false → every l ≡ false
-unfolding every
-every_no [] i e = not_so (sym e)
-every_no (true ∷ l) zero e = not_so (sym e)
-every_no (false ∷ l) i e = refl
-every_no (true ∷ l) (suc i) e = every_no l i e
 
 -- ---- a row
 
@@ -55,13 +46,16 @@ limits_row t m c r = rw (le-leb t 255 r.texture, le-leb m 255 r.mode, le-leb 1 c
 
 -- how `row_fits` answers
 module _ (t m c left : ℕ) where
-  pub row_no : (i : ℕ) → get_or (leb t 255 ∷ leb m 255 ∷ leb 1 c ∷ leb c 128000 ∷ []) i true ≡ false → false ≡ row_fits t m c left
-  unfolding row_fits row_within
-  row_no i e = sym (ap (λ (b : Bool). cond b (leb c left) false) (every_no (leb t 255 ∷ leb m 255 ∷ leb 1 c ∷ leb c 128000 ∷ []) i e))
-
-  pub row_yes : RowLimits t m c → leb c left ≡ row_fits t m c left
-  unfolding row_fits
-  row_yes r = sym (ap (λ (b : Bool). cond b (leb c left) false) (limits_row t m c r))
+  pub row_tested : ((((leb t 255 && leb m 255) && leb 1 c) && leb c 128000) && leb c left) ≡ row_fits t m c left
+  unfolding row_fits row_within every
+  row_tested = go (leb t 255) (leb m 255) (leb 1 c) (leb c 128000) (leb c left)
+    where
+      go : (p q r s o : Bool) → ((((p && q) && r) && s) && o) ≡ cond (every (p ∷ q ∷ r ∷ s ∷ [])) o false
+      go false q r s o = refl
+      go true false r s o = refl
+      go true true false s o = refl
+      go true true true false o = refl
+      go true true true true o = refl
 
   pub row_told : row_fits t m c left ≡ true → RowLimits t m c × (c ≤ left)
   unfolding row_fits
@@ -88,67 +82,64 @@ first_row (t ∷ m ∷ c ∷ more) points h e =
     let r = row_told t m c (length points) q.0 in
     record { long = omega arith; limits = r.0; fits = r.1; rest = q.1; made = refl }
 
--- the row at word i, whose points start at o
-pub record RowAt (rows points : List ℕ) (i o c : ℕ) : Type 0 where
-  pub long : i + 3 ≤ length rows
-  pub fits : o + c ≤ length points
-  pub rest : rows_all_fit (drop (i + 3) rows) (length (drop (o + c) points)) ≡ true
-  pub made : submeshes_of (drop i rows) (drop o points) ≡ record { texture = get_or rows i 0; mode = get_or rows (i + 1) 0; points = take c (drop o points) } ∷ submeshes_of (drop (i + 3) rows) (drop (o + c) points)
+-- the first row, as a loop takes it off what is left
+pub record RowTaken (l row more points : List ℕ) : Type 0 where
+  pub fits : get_or row 2 0 ≤ length points
+  pub rest : rows_all_fit more (length (drop (get_or row 2 0) points)) ≡ true
+  pub made : submeshes_of l points
+      ≡ record { texture = get_or row 0 0; mode = get_or row 1 0; points = take (get_or row 2 0) points }
+      ∷ submeshes_of more (drop (get_or row 2 0) points)
 
-pub row_at : (rows points : List ℕ) (i o c : ℕ) → i < length rows → o ≤ length points → rows_all_fit (drop i rows) (length (drop o points)) ≡ true → c ≡ get_or rows (i + 2) 0 → RowAt rows points i o c
-row_at rows points i o c h g e d =
-    let n : length (drop i rows) ≡ length rows - i = length-drop i rows in
-    let q : length (drop o points) ≡ length points - o = length-drop o points in
-    let q' : length (drop (o + c) points) ≡ length points - (o + c) = length-drop (o + c) points in
-    let r = first_row (drop i rows) (drop o points) (omega arith) e in
-    let t : get_or (drop i rows) 0 0 ≡ get_or rows i 0 = get_or-drop i rows 0 0 ∙ ap (λ (k : ℕ). get_or rows k 0) (omega arith) in
-    let m : get_or (drop i rows) 1 0 ≡ get_or rows (i + 1) 0 = get_or-drop i rows 1 0 in
-    let z : get_or (drop i rows) 2 0 ≡ c = get_or-drop i rows 2 0 ∙ sym d in
-    let u : drop 3 (drop i rows) ≡ drop (i + 3) rows = drop-drop 3 i rows in
-    let v : drop c (drop o points) ≡ drop (o + c) points = drop-drop c o points in
-    let f : length (drop o points) - c ≡ length (drop (o + c) points) = omega arith in
-    record {
-      long = omega (arith, r.long);
-      fits = omega (arith, r.fits);
-      rest = rw (z, u, f) at r.rest;
-      made = r.made ∙ rw (t, m, z, u, v);
-    }
+pub row_first : {l : List ℕ} (row more points : List ℕ) → l ≡ row ++ more → length row ≡ 3
+    → rows_all_fit l (length points) ≡ true → RowTaken l row more points
+row_first {l} row more points e h f = rw e (go row h (rw e at f))
+  where
+    go : (row : List ℕ) → length row ≡ 3 → rows_all_fit (row ++ more) (length points) ≡ true
+        → RowTaken (row ++ more) row more points
+    go [] h f = absurd (omega arith)
+    go (t ∷ []) h f = absurd (omega arith)
+    go (t ∷ m ∷ []) h f = absurd (omega arith)
+    go (t ∷ m ∷ c ∷ []) h f =
+        let r = first_row (t ∷ m ∷ c ∷ more) points (omega arith) f in
+        record { fits = r.fits; rest = rw length-drop r.rest; made = r.made }
+    go (t ∷ m ∷ c ∷ x ∷ l) h f = absurd (omega arith)
 
 pub subs_first : (w : ℕ) (x : Submesh) (l k : List Submesh) → k ≡ x ∷ l → submeshes_fields w k ≡ submesh_fields w x ++ submeshes_fields w l
 unfolding submeshes_fields
 subs_first w x l k e = rw e
 
-pub rows_end : (w : ℕ) (rows points : List ℕ) (i : ℕ) → length rows ≤ i → submeshes_fields w (submeshes_of (drop i rows) points) ≡ []
-unfolding submeshes_fields submeshes_of
-rows_end w rows points i h = rw (rest-none rows i h)
+pub rows_end : (w : ℕ) (l points : List ℕ) (n : ℕ) → length l < 3 → rows_all_fit l n ≡ true
+    → submeshes_fields w (submeshes_of l points) ≡ []
+unfolding submeshes_fields submeshes_of rows_all_fit
+rows_end w [] points n h e = refl
+rows_end w (t ∷ []) points n h e = not_so e
+rows_end w (t ∷ m ∷ []) points n h e = not_so e
+rows_end w (t ∷ m ∷ c ∷ l) points n h e = absurd (omega arith)
 
--- the row at word i, as a loop takes it
-pub row_look : (rows : List ℕ) (i left : ℕ) → i + 3 ≤ length rows
-    → rows_all_fit (drop i rows) left ≡ cond (row_fits (get_or rows i 0) (get_or rows (i + 1) 0) (get_or rows (i + 2) 0) left) (rows_all_fit (drop (i + 3) rows) (left - get_or rows (i + 2) 0)) false
+-- the first row, as a loop takes it
+pub row_taken : {l : List ℕ} (row more : List ℕ) (left : ℕ) → l ≡ row ++ more → length row ≡ 3
+    → rows_all_fit l left
+    ≡ cond (row_fits (get_or row 0 0) (get_or row 1 0) (get_or row 2 0) left)
+    (rows_all_fit more (left - get_or row 2 0)) false
 unfolding rows_all_fit
-row_look rows i left h =
-    let a = rest-cons rows i (omega arith) in
-    let b = rest-cons rows (i + 1) (omega arith) in
-    let c = rest-cons rows (i + 2) (omega arith) in
-    let d : i + 1 + 1 ≡ i + 2 = omega arith in
-    let e : i + 2 + 1 ≡ i + 3 = omega arith in
-    let f : drop i rows ≡ get_or rows i 0 ∷ get_or rows (i + 1) 0 ∷ get_or rows (i + 2) 0 ∷ drop (i + 3) rows =
-    a ∙ ap (λ (l : List ℕ). get_or rows i 0 ∷ l) (b ∙ ap (λ (l : List ℕ). get_or rows (i + 1) 0 ∷ l) (ap (λ (k : ℕ). drop k rows) d ∙ c ∙ ap (λ (k : ℕ). get_or rows (i + 2) 0 ∷ drop k rows) e)) in
-    ap (λ (l : List ℕ). rows_all_fit l left) f
+row_taken {l} row more left e h = ap (λ (k : List ℕ). rows_all_fit k left) e ∙ go row h
+  where
+    go : (row : List ℕ) → length row ≡ 3 → rows_all_fit (row ++ more) left
+        ≡ cond (row_fits (get_or row 0 0) (get_or row 1 0) (get_or row 2 0) left)
+        (rows_all_fit more (left - get_or row 2 0)) false
+    go [] h = absurd (omega arith)
+    go (t ∷ []) h = absurd (omega arith)
+    go (t ∷ m ∷ []) h = absurd (omega arith)
+    go (t ∷ m ∷ c ∷ []) h = refl
+    go (t ∷ m ∷ c ∷ x ∷ l) h = absurd (omega arith)
 
-torn_row : (l : List ℕ) (left : ℕ) → 0 < length l → length l < 3 → rows_all_fit l left ≡ false
+-- and once all are taken
+pub rows_done : (l : List ℕ) (left : ℕ) → length l % 3 ≡ 0 → length l < 3 → rows_all_fit l left ≡ eqb left 0
 unfolding rows_all_fit
-torn_row [] left a b = absurd (omega arith)
-torn_row (x ∷ []) left a b = refl
-torn_row (x ∷ y ∷ []) left a b = refl
-torn_row (x ∷ y ∷ z ∷ l) left a b = absurd (omega arith)
-
-pub row_torn : (rows : List ℕ) (i left : ℕ) → i < length rows → length rows < i + 3 → rows_all_fit (drop i rows) left ≡ false
-row_torn rows i left h g = torn_row (drop i rows) left (omega (arith, length-drop i rows)) (omega (arith, length-drop i rows))
-
-pub row_done : (rows : List ℕ) (i left : ℕ) → length rows ≤ i → rows_all_fit (drop i rows) left ≡ eqb left 0
-unfolding rows_all_fit
-row_done rows i left h = rw (rest-none rows i h)
+rows_done [] left h k = refl
+rows_done (t ∷ []) left h k = absurd (omega arith)
+rows_done (t ∷ m ∷ []) left h k = absurd (omega arith)
+rows_done (t ∷ m ∷ c ∷ l) left h k = absurd (omega arith)
 
 -- ---- what rows that fit are made of
 
@@ -221,7 +212,21 @@ rows_right (t ∷ m ∷ c ∷ more) n h =
     let ih = rows_right more (n - c) (record { threes = omega (arith, h.threes); limits = q.1; total = omega (arith, h.total) }) in
     rw (q.0, le-leb c n (omega (arith, h.total))) ih
 
+-- words that are no whole threes
+pub rows_torn : (l : List ℕ) (n : ℕ) → (length l % 3 ≡ 0 → ⊥) → rows_all_fit l n ≡ false
+rows_torn l n h = go (rows_all_fit l n) (λ e. h (rows_told l n e).threes)
+  where
+    go : (b : Bool) → (b ≡ true → ⊥) → b ≡ false
+    go true k = absurd (k refl)
+    go false k = refl
+
 -- ---- widths
 
 pub width_fits : (c : ℕ) → c ≤ 32000 → width_of c ≤ 32
 width_fits c h = omega (arith, width_small c h)
+
+-- a run of numbers of width a
+pub run_most : (n limit a : ℕ) → limit ≤ 32000 → a ≡ width_of limit → n * a ≤ 16 * n
+run_most n limit a h e =
+    let w : a ≤ 16 = rw e (width_small limit h) in
+    omega (arith, mul-le-mul_left n w)

@@ -1,10 +1,13 @@
 -- Laws of the sphere's grid: what a usable grid is, its rows by the corners of their first cell, the lengths of its lists, and the ways through what the calls put into a buffer. Assumes nothing.
-use Rattle.std.proofs.Common.{◌≡◌, ℕ, zero, suc, ◌+◌, ◌-◌, ◌*◌, ◌^◌, ◌<◌, ◌≤◌, Bool, true, false, cond, ◌&&◌, eqb, leb, [], ◌∷◌, ◌++◌, length, sym, refl, ap, ◌∙◌, ap₂, mul-le-mul_right, mul_assoc, suc-mul, mul_comm, add-mul, mul-le-mul, mul-le-mul_left, mul-add, add-one, arith, length-append, eq-eqb, ne_eqb, eqb-true, leb-true}
+use Rattle.std.proofs.Common.{◌≡◌, ℕ, zero, suc, ◌+◌, ◌-◌, ◌*◌, ◌<◌, ◌≤◌, Bool, true, false, cond, ◌&&◌, eqb, leb, [], ◌∷◌, ◌++◌, length, sym, refl, ap, ◌∙◌, ap₂, mul-le-mul_right, mul_assoc, suc-mul, mul_comm, add-mul, mul-le-mul, mul-le-mul_left, mul-add, add-one, arith, length-append, eq-eqb, ne_eqb, eqb-true, leb-true, le-leb}
 use mathlib.Core.Bool.{and-eq-true_iff, and-true, and-false}
 use lib.Dec.{leb-suc-suc}
 use lib.Ieee.{eq}
 use mir.Val.{bool_byte}
 use Rattle.bits.specs.Verdict.{accepted, declined}
+use Rattle.bits.specs.Says.{number_of}
+use Rattle.bits.specs.declared.refusals.Refusal.{Refusal}
+use Rattle.bits.specs.declared.refusals.Refusal.TheVariants as R
 use Rattle.payload.specs.Fill.{each}
 use Rattle.payload.specs.Float.{f0}
 use Rattle.payload.specs.Crop.{usable}
@@ -33,17 +36,22 @@ module _ (rings sectors : ℕ) where
         leb-true ((rings + 1) * (sectors + 1)) 65536 p.1,
       )
 
+  pub usable_yes : 2 ≤ rings → 3 ≤ sectors → rings * (sectors + 1) + sectors ≤ 65535 → grid_usable rings sectors ≡ true
+  unfolding grid_usable
+  usable_yes h k l = rw (← last_vertex, le-leb 2 rings h, le-leb 3 sectors k, le-leb _ 65535 l)
+
+  pub usable_no : (2 ≤ rings → 3 ≤ sectors → rings * (sectors + 1) + sectors ≤ 65535 → ⊥) → grid_usable rings sectors ≡ false
+  usable_no h = go (grid_usable rings sectors) refl
+    where
+      go : (b : Bool) → grid_usable rings sectors ≡ b → b ≡ false
+      go true e = let u = usable_grid e in let v = vertices in absurd (h u.0 u.1 (omega arith))
+      go false e = refl
+
   pub sides_fit : grid_usable rings sectors ≡ true → (rings < 65536) × (sectors < 65536)
   sides_fit u =
       let l : (rings + 1) * 1 ≤ (rings + 1) * (sectors + 1) = mul-le-mul_left (rings + 1) (omega arith) in
       let r : 1 * (sectors + 1) ≤ (rings + 1) * (sectors + 1) = mul-le-mul_right (sectors + 1) (omega arith) in
       (omega (arith, l, usable_grid u), omega (arith, r, usable_grid u))
-
-  -- for all u32 that number fits a u64
-  pub last_fits : rings < 2 ^ 32 → sectors < 2 ^ 32 → rings * (sectors + 1) + sectors < 2 ^ 64
-  last_fits h l =
-      let m : rings * (sectors + 1) ≤ 4294967295 * 4294967296 = mul-le-mul {n₂ = 4294967295} {m₂ = 4294967296} (omega arith) (omega arith) in
-      omega arith
 
   -- the numbers of a ring and of the next one
   pub ring_fits : (ring : ℕ) → grid_usable rings sectors ≡ true → ring < rings → ring * (sectors + 1) + 2 * (sectors + 1) ≤ 65536
@@ -80,25 +88,32 @@ module _ (sectors ring : ℕ) where
   lower a c d i ea ec ed = let n = next in three (omega arith) (omega arith) (omega arith)
 
 module _ (rings sectors ring : ℕ) (zenith nadir : Bool) where
-  pub row_zenith : (a c d : ℕ) → a ≡ ring * (sectors + 1) → c ≡ a + (sectors + 1) → d ≡ c + 1 → (zenith && eqb ring 0) ≡ true → 2 ≤ rings
-      → each (shifted a c d) sectors ≡ grid_row rings sectors zenith nadir ring
-  unfolding grid_row grid_cell
-  row_zenith a c d ea ec ed z h =
-      let e : ring ≡ 0 = eqb-true ring 0 ((and-eq-true_iff zenith (eqb ring 0)).0 z).1 in
-      let n = apart nadir (ring + 1) rings (λ p. omega arith) in
-      each_same (shifted a c d) (grid_cell rings sectors zenith nadir ring) (λ i. rw (z, n) (lower sectors ring a c d i ea ec ed)) sectors
+  module _ (a : ℕ) (first : a ≡ ring * (sectors + 1)) where
+    pub row_zenith : (zenith && eqb ring 0) ≡ true → 2 ≤ rings
+        → each (shifted a (a + 1 + sectors) (a + 1 + sectors + 1)) sectors ≡ grid_row rings sectors zenith nadir ring
+    unfolding grid_row grid_cell
+    row_zenith z h =
+        let e : ring ≡ 0 = eqb-true ring 0 ((and-eq-true_iff zenith (eqb ring 0)).0 z).1 in
+        let n = apart nadir (ring + 1) rings (λ p. omega arith) in
+        each_same _ (grid_cell rings sectors zenith nadir ring)
+        (λ i. rw (z, n) (lower sectors ring a _ _ i first (omega arith) (omega arith))) sectors
 
-  pub row_nadir : (a d b : ℕ) → a ≡ ring * (sectors + 1) → d ≡ a + (sectors + 1) + 1 → b ≡ a + 1 → (zenith && eqb ring 0) ≡ false → (nadir && eqb (ring + 1) rings) ≡ true
-      → each (shifted a d b) sectors ≡ grid_row rings sectors zenith nadir ring
-  unfolding grid_row grid_cell
-  row_nadir a d b ea ed eb z n = each_same (shifted a d b) (grid_cell rings sectors zenith nadir ring) (λ i. rw (z, n) (upper sectors ring a d b i ea ed eb)) sectors
+    pub row_nadir : (zenith && eqb ring 0) ≡ false → (nadir && eqb (ring + 1) rings) ≡ true
+        → each (shifted a (a + 1 + sectors + 1) (a + 1)) sectors ≡ grid_row rings sectors zenith nadir ring
+    unfolding grid_row grid_cell
+    row_nadir z n =
+        each_same _ (grid_cell rings sectors zenith nadir ring)
+        (λ i. rw (z, n) (upper sectors ring a _ _ i first (omega arith) refl)) sectors
 
-  pub row_whole : (a b c d : ℕ) → a ≡ ring * (sectors + 1) → b ≡ a + 1 → c ≡ a + (sectors + 1) → d ≡ c + 1 → (zenith && eqb ring 0) ≡ false → (nadir && eqb (ring + 1) rings) ≡ false
-      → each (cell_on a b c d) sectors ≡ grid_row rings sectors zenith nadir ring
-  unfolding grid_row grid_cell
-  row_whole a b c d ea eb ec ed z n =
-      let f : d ≡ a + (sectors + 1) + 1 = omega arith in
-      each_same (cell_on a b c d) (grid_cell rings sectors zenith nadir ring) (λ i. rw (z, n) (ap₂ ◌++◌ (upper sectors ring a d b i ea f eb) (lower sectors ring a c d i ea ec ed))) sectors
+    pub row_whole : (zenith && eqb ring 0) ≡ false → (nadir && eqb (ring + 1) rings) ≡ false
+        → each (cell_on a (a + 1) (a + 1 + sectors) (a + 1 + sectors + 1)) sectors
+        ≡ grid_row rings sectors zenith nadir ring
+    unfolding grid_row grid_cell
+    row_whole z n =
+        each_same _ (grid_cell rings sectors zenith nadir ring)
+        (λ i. rw (z, n)
+        (ap₂ ◌++◌ (upper sectors ring a _ _ i first (omega arith) refl)
+        (lower sectors ring a _ _ i first (omega arith) (omega arith)))) sectors
 
 -- ---- lengths
 
@@ -192,24 +207,32 @@ uvs_length rings sectors = each-length (uv_row rings sectors) ((sectors + 1) * 2
 
 -- ---- what the calls put into a buffer
 
-module _ (rings sectors : ℕ) (b : Bounds) where
-  pub numbers_grid : grid_usable rings sectors ≡ false → sphere_numbers rings sectors b ≡ declined 9
-  unfolding sphere_numbers
-  numbers_grid g = rw g
-
-  pub numbers_crop : grid_usable rings sectors ≡ true → usable b ≡ false → sphere_numbers rings sectors b ≡ declined 10
-  unfolding sphere_numbers
-  numbers_crop g u = rw (g, u)
-
-  pub numbers_yes : grid_usable rings sectors ≡ true → usable b ≡ true → sphere_numbers rings sectors b ≡ accepted (grid_triangles rings sectors (eq b.top f0) (eq b.bottom f0))
-  unfolding sphere_numbers
-  numbers_yes g u = rw (g, u)
-
+-- what a test of the grid told, and what it said of a grid that it takes
 module _ (rings sectors : ℕ) where
-  pub uvs_grid : grid_usable rings sectors ≡ false → sphere_uvs rings sectors ≡ declined 9
-  unfolding sphere_uvs
-  uvs_grid g = rw g
+  abbrev pub Untaken : Refusal → Type 0
+  Untaken e = (e ≡ R.Grid) × (grid_usable rings sectors ≡ false)
 
-  pub uvs_yes : grid_usable rings sectors ≡ true → sphere_uvs rings sectors ≡ accepted (grid_uvs rings sectors)
+  abbrev pub Taken : ℕ → ℕ → Type 0
+  Taken r s = (r ≡ rings) × (s ≡ sectors)
+
+  pub uvs_no : (e : Refusal) → Untaken e → sphere_uvs rings sectors ≡ declined (number_of e)
   unfolding sphere_uvs
-  uvs_yes g = rw g
+  uvs_no e h = rw (h.1, h.0)
+
+  pub uvs_yes : (r s : ℕ) → Taken r s → grid_usable r s ≡ true → sphere_uvs rings sectors ≡ accepted (grid_uvs r s)
+  unfolding sphere_uvs
+  uvs_yes r s h u = rw (← h.0, ← h.1, u)
+
+  module _ (b : Bounds) where
+    pub numbers_no : (e : Refusal) → Untaken e → declined (number_of e) ≡ sphere_numbers rings sectors b
+    unfolding sphere_numbers
+    numbers_no e h = rw (h.1, h.0)
+
+    module _ (r s : ℕ) (taken : Taken r s) (u : grid_usable r s ≡ true) where
+      pub numbers_crop : usable b ≡ false → declined 10 ≡ sphere_numbers rings sectors b
+      unfolding sphere_numbers
+      numbers_crop h = rw (← taken.0, ← taken.1, u, h)
+
+      pub numbers_yes : usable b ≡ true → accepted (grid_triangles r s (eq b.top f0) (eq b.bottom f0)) ≡ sphere_numbers rings sectors b
+      unfolding sphere_numbers
+      numbers_yes h = rw (← taken.0, ← taken.1, u, h)

@@ -1,26 +1,32 @@
 -- Where a submesh of a list that was read stands. Assumes nothing.
-use Rattle.std.proofs.Common.{◌≡◌, ℕ, zero, suc, ◌+◌, ◌-◌, ◌<◌, ◌≤◌, cond, ltb, List, [], length, sym, refl, ap, ◌∙◌, arith, le-ltb, lt-ltb}
+use Rattle.std.proofs.Common.{◌≡◌, ℕ, zero, suc, ◌+◌, ◌-◌, ◌<◌, ◌≤◌, cond, ltb, List, [], ◌∷◌, length, Option, Some, None, sym, refl, ap, ◌∙◌, arith, le-ltb, lt-ltb}
+use Rattle.std.specs.Option.{MatchOption}
+use Rattle.std.specs.Iterator.{Yields, SkipsThenYields}
 use Rattle.bits.specs.Verdict.{Verdict, accepted, declined, mapped, limited}
 use Rattle.bits.specs.Number.{width_of}
 use Rattle.bits.specs.declared.fields.runs.Run.{Run}
 use Rattle.bits.proofs.VerdictLaws.{mapped_value}
 use Rattle.payload.specs.Mesh.{Submesh, Mesh}
-use Rattle.payload.specs.MeshSpells.{submesh_bits, mesh_vertices, submeshes_at, part}
+use Rattle.payload.specs.MeshSpells.{submesh_bits, mesh_vertices, submeshes_at}
 use Rattle.payload.specs.MeshRead.{read_mesh, read_meshes}
-use Rattle.payload.specs.Internal.{WasRead, submeshes_of, taken_submesh, Taken}
-use Rattle.payload.specs.Internal.{mesh_read, meshes_from, any_from, HeadOf}
-use Rattle.payload.specs.Places.{nowhere, spot, next_body, Standing, submesh_from, submesh_in}
+use Rattle.payload.specs.Internal.{WasRead, submeshes_of}
+use Rattle.payload.specs.Internal.{mesh_read, meshes_from, HeadOf}
+use Rattle.payload.specs.Places.{spot, Standing, submesh_from, submesh_in}
 use Rattle.payload.specs.Places.{standing_at, standing_from, submesh_found, place_found}
 use Rattle.payload.specs.Meshes.{list_size}
 use Rattle.payload.specs.declared.mesh.head.Head.{Head}
 use Rattle.payload.specs.declared.mesh.measure.MeshListSize.{MeshListSize}
 use Rattle.payload.specs.declared.mesh.submeshes.Submeshes.{Submeshes}
-use Rattle.payload.specs.declared.mesh.submeshes.NextSubmesh.{NextSubmesh}
+use Rattle.payload.specs.declared.mesh.submeshes.TakenSubmesh.{TakenSubmesh}
+use Rattle.payload.specs.declared.mesh.submeshes.SubmeshWalk.{SubmeshWalk}
+use Rattle.payload.specs.declared.mesh.meshes.ReadMesh.{ReadMesh}
+use Rattle.payload.specs.declared.mesh.meshes.MeshWalk.{MeshWalk}
+use Rattle.payload.specs.InternalMeshes.{meshes_in, TakenMesh}
+use Rattle.payload.specs.InternalWalk.{submeshes_in, taken_submesh, Taken, WalkGives}
 use Rattle.payload.proofs.StepLaws.{read_value}
 use Rattle.payload.proofs.MeshReadLaws.{mesh_spells}
-use Rattle.payload.proofs.TurnLaws.{mesh_is, Listed, not_listed}
-use Rattle.payload.proofs.HeadLaws.{HeadKnown}
-use Rattle.payload.proofs.PlaceLaws.{MeshNext, next_read}
+use Rattle.payload.proofs.TurnLaws.{some_left, mesh_is, Listed, not_listed}
+use Rattle.payload.proofs.HeadLaws.{HeadKnown, head_known}
 
 -- ---- in a body, by the first of some submeshes
 
@@ -28,28 +34,55 @@ use Rattle.payload.proofs.PlaceLaws.{MeshNext, next_read}
 abbrev pub submesh_among : List ℕ → Submeshes → ℕ → Verdict (Submesh × Run)
 submesh_among s all j = submesh_from all.vertices all.bit (submeshes_of s all) j
 
-module _ {s : List ℕ} {all : Submeshes} {r : NextSubmesh} (T : Taken s all r) where
-  pub among_first : (j : ℕ) → j ≤ 0 → submesh_among s all j ≡ accepted (taken_submesh s r, r.run)
+module _ {w t : SubmeshWalk} {r : TakenSubmesh} (T : Taken w r t) where
+  pub among_first : (j : ℕ) → j ≤ 0 → submesh_among w.s.now w.rest j ≡ accepted (taken_submesh w.s.now r, r.run)
   unfolding submesh_from
   among_first zero h =
       let run : Run =
-      record { bit = all.bit + 48; limit = all.vertices; count = length (taken_submesh s r).points } in
+      record { bit = w.rest.bit + 48; limit = w.rest.vertices; count = length (taken_submesh w.s.now r).points } in
       let e : run ≡ r.run =
       λ i. record { bit = sym T.place i; limit = sym T.limit i; count = sym T.count i } in
       rw (T.is, e)
   among_first (suc j) h = absurd (omega arith)
 
-  pub among_rest : (j : ℕ) → 0 < j → submesh_among s all j ≡ submesh_among s r.rest (j - 1)
+  pub among_rest : (j : ℕ) → 0 < j → submesh_among w.s.now w.rest j ≡ submesh_among t.s.now t.rest (j - 1)
   unfolding submesh_from
   among_rest zero h = absurd (omega arith)
   among_rest (suc j) h =
       let z : suc j - 1 ≡ j = omega arith in
-      let p : all.bit + submesh_bits (width_of all.vertices) (taken_submesh s r) ≡ r.rest.bit =
+      let p : w.rest.bit + submesh_bits (width_of w.rest.vertices) (taken_submesh w.s.now r) ≡ t.rest.bit =
       rw (← T.count) (omega (arith, T.after)) in
-      ap (λ (l : List Submesh). submesh_from all.vertices all.bit l (suc j)) T.is
-      ∙ ap (λ (q : ℕ). submesh_from all.vertices q (submeshes_of s r.rest) j) p
-      ∙ ap (λ (m : ℕ). submesh_from m r.rest.bit (submeshes_of s r.rest) j) (sym T.vertices)
-      ∙ ap (submesh_among s r.rest) (sym z)
+      ap (λ (l : List Submesh). submesh_from w.rest.vertices w.rest.bit l (suc j)) T.is
+      ∙ ap (λ (q : ℕ). submesh_from w.rest.vertices q (submeshes_in t) j) p
+      ∙ ap (λ (m : ℕ). submesh_from m t.rest.bit (submeshes_in t) j) (sym T.vertices)
+      ∙ ap (submesh_among t.s.now t.rest) (sym z)
+
+-- by a walk over them
+walked : (xs : List TakenSubmesh) (w t : SubmeshWalk) → Yields WalkGives w xs t
+    → (t.rest.left + length xs ≡ w.rest.left)
+    × ((j : ℕ) → submesh_among w.s.now w.rest (length xs + j) ≡ submesh_among t.s.now t.rest j)
+walked [] w t e =
+    let l : t.rest.left ≡ w.rest.left = ap (λ (v : SubmeshWalk). v.rest.left) (sym e) in (
+      omega arith,
+      λ j. let z : 0 + j ≡ j = omega arith in rw z (ap (λ (v : SubmeshWalk). submesh_among v.s.now v.rest j) e),
+    )
+walked (x ∷ xs) w t (v, T, y) =
+    let i = walked xs v t y in (
+      omega (arith, i.0, T.left),
+      λ j.
+          let z : suc (length xs) + j - 1 ≡ length xs + j = omega arith in
+          among_rest T (suc (length xs) + j) (omega arith) ∙ rw z (i.1 j),
+    )
+
+-- the run of number n, which is there
+pub nth_run : (w u : SubmeshWalk) (n : ℕ) (r : Option TakenSubmesh) → n < w.rest.left → SkipsThenYields WalkGives w n r u
+    → MatchOption r ⊥ (λ x. accepted x.run ≡ mapped (λ x. x.1) (submesh_among w.s.now w.rest n))
+nth_run w u n None h (xs, (t, y, d), l) =
+    let i = walked xs w t y in some_left t.there (omega (arith, i.0, l)) d
+nth_run w u n (Some x) h (xs, (t, y, T), l) =
+    let z : length xs + 0 ≡ n = omega arith in
+    let i = rw z at ((walked xs w t y).1 0) in
+    sym (ap (mapped (λ x. x.1)) (i ∙ among_first T 0 (omega arith)))
 
 -- ---- in a body that was read, by its head
 
@@ -66,39 +99,29 @@ head_among s h r H K j =
 
 -- ---- in a list
 
--- what is sought has this number among the submeshes from a byte on
-pub record Seeking (s : List ℕ) (number at before : ℕ) : Type 0 where
-  pub read : WasRead (any_from s at)
-  pub same : standing_from s 0 (meshes_from s 0) number ≡ standing_from s at (meshes_from s at) before
+-- submesh number j of the meshes that a walk has left
+abbrev pub standing_in : MeshWalk → ℕ → Verdict Standing
+standing_in w j = standing_from w.s.now w.at (meshes_in w) j
 
-pub seek-start : (s : List ℕ) (number : ℕ) → WasRead (any_from s 0) → Seeking s number 0 number
-seek-start s number r = record { read = r; same = refl }
-
-pub seek_end : {s : List ℕ} {number at before : ℕ} → Seeking s number at before → nowhere ≡ next_body s at
-    → standing_from s 0 (meshes_from s 0) number ≡ declined 24
+pub standing-none : (w : MeshWalk) (j : ℕ) → meshes_in w ≡ [] → standing_in w j ≡ declined 24
 unfolding standing_from
-seek_end {s} {number} {at} {before} K e =
-    let n : meshes_from s at ≡ [] = rw (← e) at (next_read s at K.read) in
-    K.same ∙ ap (λ (l : List Mesh). standing_from s at l before) n
+standing-none w j e = ap (λ (l : List Mesh). standing_from w.s.now w.at l j) e
 
--- where the body of the first mesh from byte p on stands
-module _ {s : List ℕ} {p body end : ℕ} (N : MeshNext s p body end) (e : spot body end ≡ next_body s p) (j : ℕ) where
-  by_first : standing_from s p (meshes_from s p) j
-      ≡ cond (ltb j (length (mesh_read (part s body end)).submeshes))
-      (mapped (standing_at (spot body end)) (submesh_in (mesh_read (part s body end)) j))
-      (standing_from s end (meshes_from s end) (j - length (mesh_read (part s body end)).submeshes))
+module _ {w t : MeshWalk} {m : ReadMesh} (T : TakenMesh w m t) (j : ℕ) where
+  by_first : standing_in w j
+      ≡ cond (ltb j (length (mesh_read m.s.now).submeshes))
+      (mapped (standing_at (spot m.body m.end)) (submesh_in (mesh_read m.s.now) j))
+      (standing_in t (j - length (mesh_read m.s.now).submeshes))
   unfolding standing_from
-  by_first = ap (λ (l : List Mesh). standing_from s p l j) N.is ∙ rw (← e)
+  by_first = ap (λ (l : List Mesh). standing_from w.s.now w.at l j) T.is ∙ rw (T.list, T.after, ← T.there)
 
-  pub in_first : j < length (mesh_read (part s body end)).submeshes
-      → standing_from s p (meshes_from s p) j
-      ≡ mapped (standing_at (spot body end)) (submesh_in (mesh_read (part s body end)) j)
-  in_first h = by_first ∙ rw (lt-ltb j (length (mesh_read (part s body end)).submeshes) h)
+  in_first : j < length (mesh_read m.s.now).submeshes
+      → standing_in w j ≡ mapped (standing_at (spot m.body m.end)) (submesh_in (mesh_read m.s.now) j)
+  in_first h = by_first ∙ rw (lt-ltb j (length (mesh_read m.s.now).submeshes) h)
 
-  pub in_others : length (mesh_read (part s body end)).submeshes ≤ j
-      → standing_from s p (meshes_from s p) j
-      ≡ standing_from s end (meshes_from s end) (j - length (mesh_read (part s body end)).submeshes)
-  in_others h = by_first ∙ rw (le-ltb j (length (mesh_read (part s body end)).submeshes) h)
+  in_others : length (mesh_read m.s.now).submeshes ≤ j
+      → standing_in w j ≡ standing_in t (j - length (mesh_read m.s.now).submeshes)
+  in_others h = by_first ∙ rw (le-ltb j (length (mesh_read m.s.now).submeshes) h)
 
 -- the place that is told
 in_body : (body end : ℕ) (v : Verdict (Submesh × Run)) (run : Run) → accepted run ≡ mapped (λ x. x.1) v
@@ -108,25 +131,20 @@ in_body body end v run e =
     let t = mapped_value (λ x. x.1) v run e in
     rw t.1 (ap (λ (r : Run). accepted (record { body = body; end = end; run = r })) t.2)
 
-module _ {s : List ℕ} {number at before body end : ℕ} (K : Seeking s number at before) (N : MeshNext s at body end)
-    (e : spot body end ≡ next_body s at) (h : Head) (H : HeadOf (part s body end) h)
-    (L : HeadKnown (part s body end) h) where
-  pub seek_on : h.submeshes.left ≤ before → Seeking s number end (before - h.submeshes.left)
-  seek_on l =
-      record {
-        read = N.rest;
-        same = K.same ∙ in_others N e before (omega (arith, L.count))
-            ∙ ap (λ (n : ℕ). standing_from s end (meshes_from s end) (before - n)) L.count;
-      }
+module _ {w t : MeshWalk} {m : ReadMesh} (T : TakenMesh w m t) (h : Head) (H : HeadOf m.s.now h) (j : ℕ) where
+  pub standing_on : h.submeshes.left ≤ j → standing_in w j ≡ standing_in t (j - h.submeshes.left)
+  standing_on l =
+      let n = (head_known m.s.now h m.short m.read H).count in
+      in_others T j (omega (arith, n)) ∙ ap (λ (k : ℕ). standing_in t (j - k)) n
 
-  pub seek_here : before < h.submeshes.left → (run : Run)
-      → accepted run ≡ mapped (λ x. x.1) (submesh_among (part s body end) h.submeshes before)
-      → accepted (record { body = body; end = end; run = run })
-      ≡ mapped (λ (x : Standing). x.place) (standing_from s 0 (meshes_from s 0) number)
-  seek_here l run d =
-      sym (ap (mapped (λ (x : Standing). x.place)) (K.same ∙ in_first N e before (omega (arith, L.count)))
-      ∙ in_body body end (submesh_in (mesh_read (part s body end)) before) run
-      (d ∙ ap (mapped (λ x. x.1)) (sym (head_among (part s body end) h N.read H L before))))
+  pub standing_here : j < h.submeshes.left → (run : Run)
+      → accepted run ≡ mapped (λ x. x.1) (submesh_among m.s.now h.submeshes j)
+      → accepted (record { body = m.body; end = m.end; run = run }) ≡ mapped (λ (x : Standing). x.place) (standing_in w j)
+  standing_here l run d =
+      let L = head_known m.s.now h m.short m.read H in
+      sym (ap (mapped (λ (x : Standing). x.place)) (in_first T j (omega (arith, L.count)))
+      ∙ in_body m.body m.end (submesh_in (mesh_read m.s.now) j) run
+      (d ∙ ap (mapped (λ x. x.1)) (sym (head_among m.s.now h m.read H L j))))
 
 -- ---- in a payload
 

@@ -8,9 +8,10 @@ use Rattle.payload.specs.Mesh.{Submesh, Mesh}
 use Rattle.payload.specs.MeshSpells.{mesh_vertices}
 use Rattle.payload.specs.MeshRead.{read_mesh}
 use Rattle.payload.specs.MeshDrawing.{point_count}
-use Rattle.payload.specs.Internal.{read_words, WasRead, points_of, submeshes_of, Taken, mesh_read, body_size}
-use Rattle.payload.specs.declared.mesh.submeshes.Submeshes.{Submeshes}
-use Rattle.payload.specs.declared.mesh.submeshes.NextSubmesh.{NextSubmesh}
+use Rattle.payload.specs.Internal.{read_words, WasRead, points_of, mesh_read, body_size}
+use Rattle.payload.specs.declared.mesh.submeshes.TakenSubmesh.{TakenSubmesh}
+use Rattle.payload.specs.declared.mesh.submeshes.SubmeshWalk.{SubmeshWalk}
+use Rattle.payload.specs.InternalWalk.{submeshes_in, Taken}
 use Rattle.payload.specs.Tables.{submesh_rows, all_points, pool_table, coordinate_table, submesh_table, point_table, table_lengths, body_read}
 use Rattle.payload.specs.declared.mesh.measure.TableLengths.{TableLengths}
 use Rattle.bits.proofs.VerdictLaws.{limited_yes, limited_no}
@@ -70,22 +71,22 @@ points_length (x ∷ l) = length-append x.points (all_points l) ∙ ap (λ (k : 
 
 -- ---- the first of some submeshes was taken
 
-module _ {s : List ℕ} {all : Submeshes} {r : NextSubmesh} (T : Taken s all r) where
+module _ {w t : SubmeshWalk} {r : TakenSubmesh} (T : Taken w r t) where
   -- its row was stored, and the others' are left
   pub row_stored : (d d' : List ℕ) (at : ℕ) → d' ≡ sets d at (r.texture ∷ r.mode ∷ r.run.count ∷ [])
-      → sets d at (submesh_rows (submeshes_of s all)) ≡ sets d' (at + 3) (submesh_rows (submeshes_of s r.rest))
+      → sets d at (submesh_rows (submeshes_in w)) ≡ sets d' (at + 3) (submesh_rows (submeshes_in t))
   unfolding submesh_rows
   row_stored d d' at e = taken_stored T submesh_rows submesh_rows (r.texture ∷ r.mode ∷ r.run.count ∷ []) (λ l. ap (λ (k : ℕ). r.texture ∷ r.mode ∷ k ∷ submesh_rows l) (sym T.count)) d d' at (at + 3) e refl
 
   -- its points were stored, and the others' are left
-  pub points_stored : (d d' : List ℕ) (at : ℕ) → d' ≡ sets d at (points_of s r.run)
-      → sets d at (all_points (submeshes_of s all)) ≡ sets d' (at + r.run.count) (all_points (submeshes_of s r.rest))
+  pub points_stored : (d d' : List ℕ) (at : ℕ) → d' ≡ sets d at (points_of w.s.now r.run)
+      → sets d at (all_points (submeshes_in w)) ≡ sets d' (at + r.run.count) (all_points (submeshes_in t))
   unfolding all_points
-  points_stored d d' at e = taken_stored T all_points all_points (points_of s r.run) (λ l. refl) d d' at (at + r.run.count) e (omega (arith, T.count))
+  points_stored d d' at e = taken_stored T all_points all_points (points_of w.s.now r.run) (λ l. refl) d d' at (at + r.run.count) e (omega (arith, T.count))
 
   -- how many points all of them have
-  pub points_split : length (all_points (submeshes_of s all)) ≡ r.run.count + length (all_points (submeshes_of s r.rest))
-  points_split = points_length (submeshes_of s all) ∙ taken_points T ∙ ap (λ (k : ℕ). r.run.count + k) (sym (points_length (submeshes_of s r.rest)))
+  pub points_split : length (all_points (submeshes_in w)) ≡ r.run.count + length (all_points (submeshes_in t))
+  points_split = points_length (submeshes_in w) ∙ taken_points T ∙ ap (λ (k : ℕ). r.run.count + k) (sym (points_length (submeshes_in t)))
 
 -- ---- a mesh that was read
 

@@ -11,11 +11,11 @@ use Rattle.payload.specs.Records.{records_in, point_sum}
 use Rattle.payload.specs.Firsts.{firsts, Distinct, Below}
 use Rattle.payload.specs.Textures.{textures, points_with, paired, texture_words, list_textures}
 use Rattle.payload.specs.TextureLaws.{listed_textures, listed_points}
-use Rattle.payload.specs.Internal.{submeshes_of, Taken}
 use Rattle.payload.specs.InternalTextures.{weight, weights, list_weights, Proper}
 use Rattle.payload.specs.declared.mesh.records.Record.{Record}
-use Rattle.payload.specs.declared.mesh.submeshes.Submeshes.{Submeshes}
-use Rattle.payload.specs.declared.mesh.submeshes.NextSubmesh.{NextSubmesh}
+use Rattle.payload.specs.declared.mesh.submeshes.TakenSubmesh.{TakenSubmesh}
+use Rattle.payload.specs.declared.mesh.submeshes.SubmeshWalk.{SubmeshWalk}
+use Rattle.payload.specs.InternalWalk.{submeshes_in, Taken}
 use Rattle.payload.proofs.FirstsLaws.{or_no, or_yes, distinct-firsts, below-noted, few}
 
 -- ---- lists one after the other
@@ -172,10 +172,10 @@ pub first_mesh : (x : Mesh) (l : List Mesh) → list_weights (x ∷ l) ≡ list_
 unfolding list_weights
 first_mesh x l = ap (λ (m : List Record). m ++ list_weights l) (sym (append-nil (weights x.submeshes)))
 
-pub taken_weights : {s : List ℕ} {all : Submeshes} {r : NextSubmesh} → Taken s all r
-    → weights (submeshes_of s all) ≡ (weight r.texture r.run.count ∷ []) ++ weights (submeshes_of s r.rest)
-taken_weights {s} {r = r} T =
-    ap weights T.is ∙ ap (λ (n : ℕ). weight r.texture n ∷ weights (submeshes_of s r.rest)) (sym T.count)
+pub taken_weights : {w t : SubmeshWalk} {r : TakenSubmesh} → Taken w r t
+    → weights (submeshes_in w) ≡ (weight r.texture r.run.count ∷ []) ++ weights (submeshes_in t)
+taken_weights {t = t} {r = r} T =
+    ap weights T.is ∙ ap (λ (n : ℕ). weight r.texture n ∷ weights (submeshes_in t)) (sym T.count)
 
 -- the words of records, read as records again, have the same textures and points
 textures_same : (eye first : ℕ) (l : List Submesh) (words : List ℕ)

@@ -15,9 +15,11 @@ use Rattle.payload.specs.MeshRead.{many, read_submesh, read_mesh, read_meshes}
 use Rattle.payload.specs.Internal.{any_from}
 use Rattle.payload.specs.MeshDrawing.{point_count, drawn_numbers, drawn_floats, drawn_records}
 use Rattle.payload.specs.Meshes.{list_size}
-use Rattle.payload.specs.Internal.{WasRead, value_or, run_numbers, submeshes_read, SubmeshesThere, submeshes_of, taken_submesh, Taken, mesh_read, box_meshes, box_read, meshes_from}
+use Rattle.payload.specs.Internal.{WasRead, value_or, run_numbers, PointsThere, points_of, submeshes_read, SubmeshesThere, submeshes_of, mesh_read, box_meshes, box_read, meshes_from}
 use Rattle.payload.specs.declared.mesh.submeshes.Submeshes.{Submeshes}
-use Rattle.payload.specs.declared.mesh.submeshes.NextSubmesh.{NextSubmesh}
+use Rattle.payload.specs.declared.mesh.submeshes.TakenSubmesh.{TakenSubmesh}
+use Rattle.payload.specs.declared.mesh.submeshes.SubmeshWalk.{SubmeshWalk}
+use Rattle.payload.specs.InternalWalk.{submeshes_in, taken_submesh, Taken}
 use Rattle.payload.specs.declared.mesh.measure.MeshListSize.{MeshListSize}
 use Rattle.payload.proofs.FillLaws.{sets-after}
 use Rattle.payload.proofs.PayloadLaws.{limited_value, limited_mapped}
@@ -88,15 +90,27 @@ module _ (s : List ℕ) (w m : ℕ) where
           )
 
 -- what taking the first of some submeshes tells
+pub record First (s : List ℕ) (all : Submeshes) (r : TakenSubmesh) (rest : Submeshes) : Type 0 where
+  pub is : submeshes_of s all ≡ taken_submesh s r ∷ submeshes_of s rest
+  pub byte : r.texture < 256
+  pub run : PointsThere s r.run
+  pub there : SubmeshesThere s rest
+  pub count : r.run.count ≡ length (points_of s r.run)
+  pub place : r.run.bit ≡ all.bit + 48
+  pub after : rest.bit ≡ all.bit + 48 + r.run.count * width_of all.vertices
+  pub limit : r.run.limit ≡ all.vertices
+  pub vertices : rest.vertices ≡ all.vertices
+  pub left : rest.left + 1 ≡ all.left
+
 pub taken : (s : List ℕ) (all : Submeshes) (a b k w : ℕ) → SubmeshesThere s all → 1 ≤ all.left → a ≡ field s all.bit 8 → b ≡ field s (all.bit + 8) 8
     → k ≡ field s (all.bit + 16) 32 → w ≡ width_of all.vertices
-    → Taken s all
+    → First s all
     (record {
       texture = a;
       mode = b;
       run = record { bit = all.bit + 48; limit = all.vertices; count = k };
-      rest = record { bit = all.bit + 48 + k * w; vertices = all.vertices; left = all.left - 1 };
     })
+    (record { bit = all.bit + 48 + k * w; vertices = all.vertices; left = all.left - 1 })
 taken s all a b k w S o ea eb ek ew = rw ew (go (submesh_turn s v m all.left all.bit k (omega arith) S.read ek))
   where
     m : ℕ
@@ -106,13 +120,13 @@ taken s all a b k w S o ea eb ek ew = rw ew (go (submesh_turn s v m all.left all
     v = width_of all.vertices
 
     go : (x : Submesh) × SubmeshTurn s v m all.left all.bit k x
-        → Taken s all
+        → First s all
         (record {
           texture = a;
           mode = b;
           run = record { bit = all.bit + 48; limit = m; count = k };
-          rest = record { bit = all.bit + 48 + k * v; vertices = m; left = all.left - 1 };
         })
+        (record { bit = all.bit + 48 + k * v; vertices = m; left = all.left - 1 })
     go (x, T) =
         let p : run_numbers (read_run s v m k (all.bit + 48) (zeros 1)) ≡ x.points = ap run_numbers T.run in
         let e : x ≡ record { texture = a; mode = b; points = run_numbers (read_run s v m k (all.bit + 48) (zeros 1)) } =
@@ -121,7 +135,7 @@ taken s all a b k w S o ea eb ek ew = rw ew (go (submesh_turn s v m all.left all
           is = T.is ∙ rw e;
           byte = omega (arith, ea, field_lt s all.bit 8);
           run = record { short = S.short; low = omega (arith, S.low); some = S.some; most = S.most; points = T.some; read = rw T.run tt };
-          rest = record { short = S.short; low = omega (arith, S.low); some = S.some; most = S.most; read = T.rest };
+          there = record { short = S.short; low = omega (arith, S.low); some = S.some; most = S.most; read = T.rest };
           count = T.count ∙ ap length (sym p);
           place = refl;
           after = refl;
@@ -131,14 +145,21 @@ taken s all a b k w S o ea eb ek ew = rw ew (go (submesh_turn s v m all.left all
         }
 
 -- the head of the first submesh, and all its points, lie inside
-pub head_inside : (s : List ℕ) (all : Submeshes) → SubmeshesThere s all → 1 ≤ all.left → all.bit + 48 ≤ 8 * length s
-head_inside s all S o =
+pub head_inside : {s : List ℕ} {all : Submeshes} → SubmeshesThere s all → 1 ≤ all.left → (length s ≤ 67108864) × (all.bit + 48 ≤ 8 * length s)
+head_inside {s} {all} S o =
     let t = submesh_turn s (width_of all.vertices) all.vertices all.left all.bit (field s (all.bit + 16) 32) (omega arith) S.read refl in
-    omega (arith, t.1.ends)
+    (S.short, omega (arith, t.1.ends))
 
-pub points_inside : (s : List ℕ) (all : Submeshes) (k w : ℕ) → SubmeshesThere s all → 1 ≤ all.left → k ≡ field s (all.bit + 16) 32 → w ≡ width_of all.vertices
-    → all.bit + 48 + k * w ≤ 8 * length s
-points_inside s all k w S o ek ew = rw ew (submesh_turn s (width_of all.vertices) all.vertices all.left all.bit k (omega arith) S.read ek).1.ends
+pub points_inside : {s : List ℕ} {all : Submeshes} (k w : ℕ) → SubmeshesThere s all → 1 ≤ all.left → k ≡ field s (all.bit + 16) 32 → w ≡ width_of all.vertices
+    → (length s ≤ 67108864) × (all.bit + 48 + k * w ≤ 8 * length s)
+points_inside {s} {all} k w S o ek ew = (S.short, rw ew (submesh_turn s (width_of all.vertices) all.vertices all.left all.bit k (omega arith) S.read ek).1.ends)
+
+-- some of them are left
+pub some_left : {s : List ℕ} {all : Submeshes} → SubmeshesThere s all → 1 ≤ all.left → submeshes_of s all ≡ [] → ⊥
+some_left {s} {all} S o e =
+    let t = submesh_turn s (width_of all.vertices) all.vertices all.left all.bit (field s (all.bit + 16) 32) (omega arith) S.read refl in
+    let d = sym t.1.is ∙ e in
+    cc
 
 pub none_left : (s : List ℕ) (all : Submeshes) → all.left ≤ 0 → submeshes_of s all ≡ []
 unfolding many
@@ -148,14 +169,14 @@ none_left s all h = go all.left h
     go zero h = refl
     go (suc n) h = absurd (omega arith)
 
-module _ {s : List ℕ} {all : Submeshes} {r : NextSubmesh} (T : Taken s all r) where
+module _ {w t : SubmeshWalk} {r : TakenSubmesh} (T : Taken w r t) where
   -- how many points all of them have
-  pub taken_points : point_count (submeshes_of s all) ≡ r.run.count + point_count (submeshes_of s r.rest)
+  pub taken_points : point_count (submeshes_in w) ≡ r.run.count + point_count (submeshes_in t)
   taken_points = ap point_count T.is ∙ omega (arith, T.count)
 
   -- what the submesh that was taken gives was stored, and what the others give is left
-  pub taken_stored : (f g : List Submesh → List ℕ) (words : List ℕ) → ((l : List Submesh) → f (taken_submesh s r ∷ l) ≡ words ++ g l) → (d d' : List ℕ) (at to : ℕ)
-      → d' ≡ sets d at words → at + length words ≡ to → sets d at (f (submeshes_of s all)) ≡ sets d' to (g (submeshes_of s r.rest))
+  pub taken_stored : (f g : List Submesh → List ℕ) (words : List ℕ) → ((l : List Submesh) → f (taken_submesh w.s.now r ∷ l) ≡ words ++ g l) → (d d' : List ℕ) (at to : ℕ)
+      → d' ≡ sets d at words → at + length words ≡ to → sets d at (f (submeshes_in w)) ≡ sets d' to (g (submeshes_in t))
   taken_stored f g words c d d' at to e h =
       rw e (ap (λ (l : List Submesh). sets d at (f l)) T.is ∙ ap (sets d at) (c _) ∙ sets-after words (g _) d at to h)
 

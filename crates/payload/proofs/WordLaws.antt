@@ -1,8 +1,12 @@
 -- Laws of words laid out as bytes. Assumes nothing.
-use Rattle.std.proofs.Common.{◌≡◌, ℕ, zero, suc, ◌+◌, ◌-◌, ◌*◌, ◌/◌, ◌%◌, ◌^◌, ◌<◌, ◌≤◌, List, [], ◌∷◌, ◌++◌, length, get_or, take, sym, refl, ap, ◌∙◌, ap₂, append_assoc, append-nil, mod-eq_of_lt, zero-add, add-one, arith, length-append, length-take-le, take_all, take-suc, ext_get_or}
+use Rattle.std.proofs.Common.{◌≡◌, ℕ, zero, suc, ◌+◌, ◌-◌, ◌*◌, ◌/◌, ◌%◌, ◌^◌, ◌<◌, ◌≤◌, List, [], ◌∷◌, ◌++◌, length, get_or, take, Result, Ok, Err, IsOk, sym, refl, ap, ◌∙◌, ap₂, append_assoc, append-nil, mod-eq_of_lt, zero-add, add-one, arith, length-append, length-take-le, take-suc, ext_get_or}
 use lib.Seq.{sets, length-sets}
-use Rattle.bits.specs.Field.{field}
-use Rattle.bits.specs.Put.{bytes_of, word_put}
+use Rattle.bits.specs.Field.{field, capped}
+use Rattle.bits.specs.Put.{bytes_of, put_says, word_put_answer, word_put}
+use Rattle.bits.specs.Verdict.{accepted, needs}
+use Rattle.bits.specs.declared.refusals.FillError.{FillError}
+use Rattle.bits.specs.declared.refusals.FillError.TheVariants as F
+use Rattle.bits.proofs.VerdictLaws.{within_yes}
 use Rattle.bits.proofs.FieldLaws.{field-append, field-append-right, field-byte, field_lt, field_split, field_window}
 use Rattle.bits.proofs.ByteLaws.{length_bytes, field-bytes_of, append-lt, bytes_lt}
 use Rattle.bits.proofs.PutLaws.{word_put_yes}
@@ -37,6 +41,17 @@ unfolding word_bytes
 word_bytes-lt [] k = omega arith
 word_bytes-lt (x ∷ l) k = append-lt (bytes_of 4 x) (word_bytes l) (λ j. bytes_lt 4 x j) (word_bytes-lt l) k
 
+-- a word that has room is put
+pub put_ok : (r : Result (Unit {0}) (FillError ℕ)) (s : List ℕ) (p : ℕ) → put_says r ≡ word_put_answer s p → p + 4 ≤ length s → IsOk r
+put_ok (Ok u) s p e h = refl
+put_ok (Err f) s p e h =
+    let w : put_says (Err f) ≡ accepted tt = e ∙ within_yes (p + 4) (length s) tt (needs (capped (p + 4) ∷ [])) h in
+    absurd (no f w)
+  where
+    no : (f : FillError ℕ) → put_says (Err f) ≡ accepted tt → ⊥
+    no (F.Needs n) w = cc
+    no (F.Refused k) w = cc
+
 -- one word more in a buffer that holds the first i of them
 pub put_next : (d l ws : List ℕ) (i : ℕ) → i < length ws → 4 * length ws ≤ length d → l ≡ sets d 0 (word_bytes (take i ws)) → word_put l (4 * i) (get_or ws i 0) ≡ sets d 0 (word_bytes (take (i + 1) ws))
 put_next d l ws i h r e =
@@ -48,10 +63,6 @@ put_next d l ws i h r e =
     ∙ ap₂ (λ (x : List ℕ) (k : ℕ). sets x k (bytes_of 4 (get_or ws i 0))) e z
     ∙ sym (sets-append b (bytes_of 4 (get_or ws i 0)) d 0)
     ∙ ap (λ (x : List ℕ). sets d 0 x) (sym (word_bytes-snoc (take i ws) (get_or ws i 0)) ∙ ap word_bytes (sym (take-suc ws i 0 h) ∙ ap (λ (k : ℕ). take k ws) (sym (add-one i))))
-
--- all of them
-pub put_all : (d ws : List ℕ) (i : ℕ) → length ws ≤ i → sets d 0 (word_bytes (take i ws)) ≡ sets d 0 (word_bytes ws)
-put_all d ws i h = ap (λ (l : List ℕ). sets d 0 (word_bytes l)) (take_all i ws h)
 
 pub put-none : (d ws : List ℕ) → d ≡ sets d 0 (word_bytes (take 0 ws))
 unfolding word_bytes

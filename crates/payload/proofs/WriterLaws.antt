@@ -1,11 +1,17 @@
 -- Bits on their way into a buffer: a field that waits, four bytes that go out, and the end. Assumes nothing.
-use Rattle.std.proofs.Common.{◌≡◌, ℕ, zero, suc, ◌+◌, ◌-◌, ◌*◌, ◌/◌, ◌%◌, ◌^◌, ◌<◌, ◌≤◌, List, [], ◌∷◌, ◌++◌, length, set, sym, refl, ap, ◌∙◌, subst, ap₂, append_assoc, append-nil, add-zero, add_assoc, mod-lt, mod-eq_of_lt, mul_assoc, add-mul, arith, pow_pos, pow-add, shr_lt}
+use Rattle.std.proofs.Common.{◌≡◌, ℕ, zero, suc, ◌+◌, ◌-◌, ◌*◌, ◌/◌, ◌%◌, ◌^◌, ◌<◌, ◌≤◌, List, [], ◌∷◌, ◌++◌, length, Result, Ok, Err, sym, refl, ap, ◌∙◌, subst, ap₂, append_assoc, append-nil, add-zero, add_assoc, mod-lt, mod-eq_of_lt, mul_assoc, add-mul, arith, pow_pos, pow-add, shr_lt, le-leb}
+use Rattle.std.specs.Int.{to_be_bytes, w32}
+use Rattle.std.specs.Result.{IsOk}
+use borrow.Rule.Slice.PartMut.{put_mid}
 use lib.Arith.{digits_lt}
 use lib.Pow.{shl-shr, split, high, low, mod-pow-add, mod-mod-pow}
 use lib.Pow as Pow
 use lib.Seq.{sets, length-sets}
 use Rattle.bits.specs.Field.{field}
-use Rattle.bits.specs.Put.{bits_put, bytes_of, field_put}
+use Rattle.bits.specs.Put.{bits_put, bytes_of, field_put, field_put_answer, put_says}
+use Rattle.bits.specs.Verdict.{accepted, width_limited, within}
+use Rattle.bits.specs.declared.refusals.FillError.{FillError}
+use Rattle.bits.specs.declared.refusals.FillError.TheVariants as F
 use Rattle.bits.proofs.ByteLaws.{length_bytes}
 use Rattle.bits.proofs.FieldLaws.{field-zero}
 use Rattle.bits.proofs.PutLaws.{cat_lt, field_put_yes}
@@ -13,6 +19,7 @@ use Rattle.payload.specs.Packed.{Field, Fits, bits, fields_number, packed, spare
 use Rattle.payload.specs.InternalWriting.{Advances, Ready, outcome, waiting}
 use Rattle.payload.specs.declared.mesh.write.BitWriter.{BitWriter}
 use Rattle.payload.proofs.FillLaws.{sets-append}
+use Rattle.payload.proofs.PartLaws.{part-put}
 use Rattle.payload.proofs.PackedLaws.{bits-append, bytes_first, bytes_low, fits_append, packed_join, packed_out}
 
 -- ---- steps
@@ -104,6 +111,18 @@ packed_bytes (suc n) k a f l h i g =
     ∙ ap₂ (λ (x : ℕ) (t : List ℕ). x ∷ (t ++ packed ((k, a) ∷ l))) (sym (mod-eq_of_lt bl)) (sym (bytes_low n b f d (sym s)))
     ∙ ap (λ (t : List ℕ). t ++ packed ((k, a) ∷ l)) (sym (bytes_first n f))
 
+-- ---- what fits is put
+
+was_put : (r : Result (Unit {0}) (FillError ℕ)) → put_says r ≡ accepted tt → IsOk r
+was_put (Ok x) e = refl
+was_put (Err (F.Needs n)) e = cc
+was_put (Err (F.Refused k)) e = cc
+
+pub field_is_put : (r : Result (Unit {0}) (FillError ℕ)) (s : List ℕ) (p w : ℕ) → put_says r ≡ field_put_answer s p w
+    → w ≤ 32 → p + w ≤ 8 * length s → IsOk r
+unfolding within width_limited
+field_is_put r s p w e n h = was_put r (e ∙ simp (le-leb w 32 n, le-leb (p + w) (8 * length s) h))
+
 -- ---- one field
 
 -- what is held, shifted up: its high bits are lost, and the low ones make room
@@ -179,25 +198,27 @@ module _ (out : List ℕ) (from : BitWriter) (w v : ℕ) (r : Ready out from ((w
 
 -- ---- four bytes
 
-four_sets : (out : List ℕ) (at a b c d : ℕ) → set (set (set (set out at a) (at + 1) b) (at + 2) c) (at + 3) d ≡ sets out at (a ∷ b ∷ c ∷ d ∷ [])
-four_sets out at a b c d =
-    let e : at + 1 ≡ suc at = omega arith in
-    let f : at + 2 ≡ suc (suc at) = omega arith in
-    let g : at + 3 ≡ suc (suc (suc at)) = omega arith in
-    rw (e, f, g)
-
-four_bytes : (x : ℕ) → x < 2 ^ 32 → bytes_of 4 x ≡ x / 16777216 ∷ x / 65536 % 256 ∷ x / 256 % 256 ∷ x % 256 ∷ []
+four_bytes : (x : ℕ) → to_be_bytes w32 x ≡ bytes_of 4 x
 unfolding bytes_of
-four_bytes x h =
-    let e : x / 256 / 256 / 256 % 256 ≡ x / 16777216 = omega arith in
-    let f : x / 256 / 256 % 256 ≡ x / 65536 % 256 = omega arith in
+four_bytes x =
+    let e : x / 16777216 % 256 ≡ x / 256 / 256 / 256 % 256 = omega arith in
+    let f : x / 65536 % 256 ≡ x / 256 / 256 % 256 = omega arith in
     ap₂ (λ (a b : ℕ). a ∷ b ∷ x / 256 % 256 ∷ x % 256 ∷ []) e f
 
-pub put_four_sets : (out : List ℕ) (at x : ℕ) → x < 2 ^ 32
-    → set (set (set (set out at (x / 16777216)) (at + 1) (x / 65536 % 256)) (at + 2) (x / 256 % 256)) (at + 3) (x % 256) ≡ sets out at (bytes_of 4 x)
-put_four_sets out at x h = four_sets out at _ _ _ _ ∙ ap (sets out at) (sym (four_bytes x h))
+-- a word stored in four bytes, big end first
+pub word_stored : (out l b : List ℕ) (at k x : ℕ) → k ≡ 4 → at + 4 ≤ length out → l ≡ b → b ≡ to_be_bytes w32 x
+    → put_mid at k out l ≡ sets out at (bytes_of 4 x)
+word_stored out l b at k x n h e f =
+    let g : to_be_bytes w32 x ≡ bytes_of 4 x = four_bytes x in
+    let i : l ≡ bytes_of 4 x = e ∙ f ∙ g in
+    let j : length (bytes_of 4 x) ≡ 4 = length_bytes 4 x in
+    part-put at k out l (ap length i ∙ j ∙ sym n) (omega arith) ∙ ap (sets out at) i
 
 -- ---- the end
+
+pub finish_room : (out : List ℕ) (from : BitWriter) → Ready out from [] → 8 * from.at + from.bits ≤ 8 * length out
+unfolding bits
+finish_room out from r = omega (arith, r.room)
 
 pub finish_is : (out : List ℕ) (from : BitWriter) → Ready out from [] → field_put out (8 * from.at) from.bits (from.held % 2 ^ 32) ≡ outcome out from []
 unfolding bits fields_number packed bits_put

@@ -1,12 +1,12 @@
 -- Kind 1: the padding of a cbmp payload, how the payload is laid out, and how it is read.
-use Rattle.std.specs.Prelude.{◌≡◌, ℕ, ◌≤◌, cond, List, [], ◌∷◌, length, ◌==◌, nat_le}
+use Rattle.std.specs.Prelude.{◌≡◌, ℕ, ◌≤◌, cond, List, [], ◌∷◌, length, ◌==◌, nat_le, Result}
 use Rattle.bits.specs.Verdict.{Verdict, accepted, declined, within, and_then}
 use Rattle.bits.specs.Field.{field}
 use Rattle.bits.specs.Read.{number_at}
 use Rattle.payload.specs.Payload.{full_box}
 use Rattle.payload.specs.Words.{word_bytes}
-use Rattle.payload.specs.declared.cbmp.CbmpAnswer.{CbmpAnswer}
-use Rattle.payload.specs.declared.cbmp.CbmpAnswer.TheVariants as A
+use Rattle.bits.specs.Says.{says}
+use Rattle.bits.specs.declared.refusals.Refusal.{Refusal}
 
 -- ---- the layout: version 0, three free bytes, layout 0, p; more bytes are free
 
@@ -31,9 +31,8 @@ layout_then_padding s at =
 unfoldable pub cbmp_read : List ℕ → Verdict ℕ
 cbmp_read s = and_then (full_box s) (layout_then_padding s)
 
-abbrev pub cbmp_says : CbmpAnswer → Verdict ℕ
-cbmp_says (A.Padding p) = accepted p
-cbmp_says (A.Declined k) = declined k
+abbrev pub cbmp_says : Result ℕ Refusal → Verdict ℕ
+cbmp_says r = says (λ p. p) r
 
 -- ---- writing: 5, or the 12 bytes, free bytes 0
 

@@ -1,12 +1,11 @@
 -- How many vertices and indices a grid asks for. 14 where a count does not fit 64 bits.
-use Rattle.std.specs.Prelude.{ℕ, ◌+◌, ◌*◌, ◌^◌, cond, nat_le}
+use Rattle.std.specs.Prelude.{ℕ, ◌+◌, ◌*◌, ◌^◌, cond, nat_le, Result}
 use Rattle.bits.specs.Verdict.{Verdict, accepted, declined, within}
-use Rattle.payload.specs.declared.counts.Counted.{Counted}
-use Rattle.payload.specs.declared.counts.Counted.TheVariants as C
+use Rattle.bits.specs.Says.{says}
+use Rattle.bits.specs.declared.refusals.Refusal.{Refusal}
 
-abbrev pub counted_says : Counted → Verdict ℕ
-counted_says (C.Count n) = accepted n
-counted_says (C.Declined k) = declined k
+abbrev pub counted_says : Result ℕ Refusal → Verdict ℕ
+counted_says r = says (λ n. n) r
 
 abbrev pub counted : ℕ → Verdict ℕ
 counted n = within (n + 1) (2 ^ 64) n (declined 14)

@@ -1,5 +1,5 @@
 -- Kind 0: the four fields of an equi payload, the crop that they make, how the payload is laid out, and how it is read.
-use Rattle.std.specs.Prelude.{◌≡◌, ℕ, ◌≤◌, true, cond, List, [], ◌∷◌, length}
+use Rattle.std.specs.Prelude.{◌≡◌, ℕ, ◌≤◌, true, cond, List, [], ◌∷◌, length, Result}
 use Rattle.bits.specs.Verdict.{Verdict, accepted, declined, and_then}
 use Rattle.bits.specs.Field.{field}
 use Rattle.bits.specs.Read.{number_at}
@@ -9,10 +9,8 @@ use Rattle.payload.specs.Payload.{full_box}
 use Rattle.payload.specs.Words.{word_bytes}
 use Rattle.payload.specs.declared.crop.Bounds.{Bounds}
 use Rattle.payload.specs.declared.equi.EquiFields.{EquiFields}
-use Rattle.payload.specs.declared.equi.EquiRead.{EquiRead}
-use Rattle.payload.specs.declared.equi.EquiRead.TheVariants as R
-use Rattle.payload.specs.declared.equi.EquiAnswer.{EquiAnswer}
-use Rattle.payload.specs.declared.equi.EquiAnswer.TheVariants as A
+use Rattle.bits.specs.Says.{says}
+use Rattle.bits.specs.declared.refusals.Refusal.{Refusal}
 
 -- the crop that four fields make: each the nearest f32, divided by 4,294,967,296
 unfoldable pub crop_of : EquiFields → Bounds
@@ -49,13 +47,11 @@ equi_read s = and_then (equi_fields s) equi_usable
 abbrev pub with_crop : EquiFields → EquiFields × Bounds
 with_crop ρ = (ρ, crop_of ρ)
 
-abbrev pub equi_read_says : EquiRead → Verdict EquiFields
-equi_read_says (R.Fields ρ) = accepted ρ
-equi_read_says (R.Declined k) = declined k
+abbrev pub equi_read_says : Result EquiFields Refusal → Verdict EquiFields
+equi_read_says r = says (λ ρ. ρ) r
 
-abbrev pub equi_says : EquiAnswer → Verdict (EquiFields × Bounds)
-equi_says (A.Reading ρ b) = accepted (ρ, b)
-equi_says (A.Declined k) = declined k
+abbrev pub equi_says : Result (EquiFields × Bounds) Refusal → Verdict (EquiFields × Bounds)
+equi_says r = says (λ x. x) r
 
 -- ---- writing: 10, or the 20 bytes, free bytes 0
 

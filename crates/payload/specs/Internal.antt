@@ -1,6 +1,7 @@
 -- What the contracts of private functions of the mesh reader cite. No promise of a public call leans on these.
 use Rattle.std.specs.Prelude.{◌≡◌, ℕ, zero, suc, ◌+◌, ◌*◌, ◌<◌, ◌≤◌, cond, List, [], ◌∷◌, length, ◌==◌, nat_le}
-use Rattle.std.specs.Prelude.{slice_index}
+use Rattle.std.specs.Prelude.{slice_index, Result}
+use Rattle.std.specs.Coded.{Unit-prop, le_prop}
 use Rattle.bits.specs.Verdict.{Verdict, accepted, needs, declined, mapped}
 use Rattle.bits.specs.Field.{field}
 use Rattle.bits.specs.Number.{width_of}
@@ -14,21 +15,13 @@ use Rattle.payload.specs.MeshDrawing.{point_count, point_total, drawn_numbers, d
 use Rattle.payload.specs.declared.mesh.head.Head.{Head}
 use Rattle.payload.specs.declared.mesh.draw.DrawPlace.{DrawPlace}
 use Rattle.payload.specs.declared.mesh.submeshes.Submeshes.{Submeshes}
-use Rattle.payload.specs.declared.mesh.submeshes.NextSubmesh.{NextSubmesh}
 use Rattle.payload.specs.declared.mesh.records.RecordPlace.{RecordPlace}
-use Rattle.payload.specs.declared.mesh.fields.PoolWord.{PoolWord}
-use Rattle.payload.specs.declared.mesh.fields.PoolWord.TheVariants as W
-use Rattle.payload.specs.declared.mesh.measure.PoolCheck.{PoolCheck}
-use Rattle.payload.specs.declared.mesh.measure.PoolCheck.TheVariants as C
+use Rattle.bits.specs.Says.{says}
+use Rattle.bits.specs.declared.refusals.Refusal.{Refusal}
 use Rattle.payload.specs.declared.mesh.measure.SubmeshEnd.{SubmeshEnd}
-use Rattle.payload.specs.declared.mesh.measure.SubmeshEnd.TheVariants as E
 use Rattle.payload.specs.declared.mesh.measure.SubmeshesSize.{SubmeshesSize}
-use Rattle.payload.specs.declared.mesh.measure.SubmeshesSize.TheVariants as S
 use Rattle.payload.specs.declared.mesh.measure.BodySize.{BodySize}
-use Rattle.payload.specs.declared.mesh.measure.BodySize.TheVariants as B
 use Rattle.payload.specs.declared.mesh.measure.Totals.{Totals}
-use Rattle.payload.specs.declared.mesh.measure.Totalled.{Totalled}
-use Rattle.payload.specs.declared.mesh.measure.Totalled.TheVariants as T
 
 -- it was accepted
 abbrev pub WasRead : {A : Type 0} → Verdict A → Type 0
@@ -104,38 +97,33 @@ pub record SubmeshesThere (s : List ℕ) (all : Submeshes) : Type 0 where
   pub most : all.vertices ≤ 32000
   pub read : WasRead (many (read_submesh s (width_of all.vertices) all.vertices) all.left all.bit)
 
+pub was_read-prop : {A : Type 0} (v : Verdict A) → IsProp (WasRead v)
+was_read-prop (accepted a) = Unit-prop
+was_read-prop (needs l) = λ x y. absurd x
+was_read-prop (declined k) = λ x y. absurd x
+
+pub there-prop : (s : List ℕ) (all : Submeshes) → IsProp (SubmeshesThere s all)
+there-prop s all x y = λ i. record {
+  short = le_prop x.short y.short i;
+  low = le_prop x.low y.low i;
+  some = le_prop x.some y.some i;
+  most = le_prop x.most y.most i;
+  read = was_read-prop _ x.read y.read i;
+}
+
 abbrev pub submeshes_of : List ℕ → Submeshes → List Submesh
 submeshes_of s all =
     submeshes_read (many (read_submesh s (width_of all.vertices) all.vertices) all.left all.bit)
 
--- the submesh that was taken
-abbrev pub taken_submesh : List ℕ → NextSubmesh → Submesh
-taken_submesh s r = record { texture = r.texture; mode = r.mode; points = points_of s r.run }
-
--- the first of some submeshes was taken
-pub record Taken (s : List ℕ) (all : Submeshes) (r : NextSubmesh) : Type 0 where
-  pub is : submeshes_of s all ≡ taken_submesh s r ∷ submeshes_of s r.rest
-  pub byte : r.texture < 256
-  pub run : PointsThere s r.run
-  pub rest : SubmeshesThere s r.rest
-  pub count : r.run.count ≡ length (points_of s r.run)
-  pub place : r.run.bit ≡ all.bit + 48
-  pub after : r.rest.bit ≡ all.bit + 48 + r.run.count * width_of all.vertices
-  pub limit : r.run.limit ≡ all.vertices
-  pub vertices : r.rest.vertices ≡ all.vertices
-  pub left : r.rest.left + 1 ≡ all.left
-
 -- ---- what the validating pass keeps of what was read
 
 -- a word of a pool that was fetched at bit p, and the place after it
-abbrev pub word_says : ℕ → PoolWord → Found ℕ
-word_says p (W.Finite w) = accepted (w, p + 32)
-word_says p (W.Declined k) = declined k
+abbrev pub word_says : ℕ → Result ℕ Refusal → Found ℕ
+word_says p r = says (λ w. (w, p + 32)) r
 
 -- that the pool's words are good
-abbrev pub pool_says : PoolCheck → Verdict (Unit {0})
-pool_says C.Good = accepted tt
-pool_says (C.Declined k) = declined k
+abbrev pub pool_says : Result (Unit {0}) Refusal → Verdict (Unit {0})
+pool_says r = says (λ u. u) r
 
 abbrev pub nothing : {A : Type 0} → A → Unit {0}
 nothing a = tt
@@ -153,25 +141,22 @@ pub record SubmeshPlace (s : List ℕ) (w m p : ℕ) : Type 0 where
 abbrev pub points_end : Submesh × ℕ → ℕ × ℕ
 points_end x = (length x.0.points, x.1)
 
-abbrev pub submesh_says : SubmeshEnd → Verdict (ℕ × ℕ)
-submesh_says (E.At n q) = accepted (n, q)
-submesh_says (E.Declined k) = declined k
+abbrev pub submesh_says : Result SubmeshEnd Refusal → Verdict (ℕ × ℕ)
+submesh_says r = says (λ e. (e.points, e.bit)) r
 
 -- how many submeshes, and their points
 abbrev pub submeshes_size : List Submesh × ℕ → ℕ × ℕ
 submeshes_size x = (length x.0, point_count x.0)
 
-abbrev pub submeshes_says : SubmeshesSize → Verdict (ℕ × ℕ)
-submeshes_says (S.Size k n) = accepted (k, n)
-submeshes_says (S.Declined k) = declined k
+abbrev pub submeshes_says : Result SubmeshesSize Refusal → Verdict (ℕ × ℕ)
+submeshes_says r = says (λ n. (n.submeshes, n.points)) r
 
 -- a mesh's vertices, submeshes and points
 abbrev pub body_size : Mesh × ℕ → ℕ × ℕ × ℕ
 body_size x = (mesh_vertices x.0, length x.0.submeshes, point_count x.0.submeshes)
 
-abbrev pub body_says : BodySize → Verdict (ℕ × ℕ × ℕ)
-body_says (B.Size m k n) = accepted (m, k, n)
-body_says (B.Declined k) = declined k
+abbrev pub body_says : Result BodySize Refusal → Verdict (ℕ × ℕ × ℕ)
+body_says r = says (λ n. (n.vertices, n.submeshes, n.points)) r
 
 -- the totals with those of some meshes
 abbrev pub no_totals : Totals
@@ -193,9 +178,8 @@ totals_of t (x ∷ l) = totals_of (with_mesh t x) l
 abbrev pub with_body : Totals → Mesh × ℕ → Totals
 with_body t x = with_mesh t x.0
 
-abbrev pub totals_says : Totalled → Verdict Totals
-totals_says (T.Totals t) = accepted t
-totals_says (T.Declined k) = declined k
+abbrev pub totals_says : Result Totals Refusal → Verdict Totals
+totals_says r = says (λ t. t) r
 
 -- what is counted takes a bit or more of the bytes before byte p, and a submesh 48
 pub record Room (t : Totals) (p : ℕ) : Type 0 where
@@ -228,10 +212,6 @@ pub record Pooled (s numbers : List ℕ) (k n : ℕ) : Type 0 where
   pub there : k + n ≤ length numbers
   pub inside : (i : ℕ) → k ≤ i → i < k + n → 32 * slice_index numbers i + 64 ≤ 8 * length s
 
--- the vertex of each of some points is there, and its pool words lie inside the body
-abbrev pub PointsPooled : List ℕ → List ℕ → ℕ → List ℕ → Type 0
-PointsPooled s numbers base points = (i : ℕ) → i < length points → Pooled s numbers (base + 5 * slice_index points i) 5
-
 -- the word at place k of a buffer
 abbrev pub word_in : List ℕ → ℕ → ℕ
 word_in words k = slice_index words k
@@ -258,12 +238,6 @@ PointsBelow m points = (i : ℕ) → i < length points → slice_index points i 
 -- they are there as long as nothing was stored at their place or after it
 abbrev pub ExpandedFrom : ℕ → List ℕ → List ℕ → ℕ → ℕ → List ℕ → ℕ → Type 0
 ExpandedFrom at s numbers base n words expanded = at < expanded → Expanded s numbers base n words expanded
-
--- how many of those that are left are drawn at once
-pub record SomeOf (left r : ℕ) : Type 0 where
-  pub some : 1 ≤ left → 1 ≤ r
-  pub few : r ≤ 64
-  pub most : r ≤ left
 
 -- the next points of a run: they lie inside the body
 pub record SomeRun (s : List ℕ) (run : Run) : Type 0 where

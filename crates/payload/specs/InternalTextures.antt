@@ -5,6 +5,7 @@ use Rattle.payload.specs.Records.{point_sum}
 use Rattle.payload.specs.Firsts.{firsts}
 use Rattle.payload.specs.Textures.{textures, points_with}
 use Rattle.payload.specs.declared.mesh.records.Record.{Record}
+use Rattle.payload.specs.declared.mesh.textures.Table.{Table}
 
 -- a record by its texture and its points: nothing else of it is counted
 abbrev pub weight : ℕ → ℕ → Record
@@ -22,30 +23,30 @@ abbrev pub Proper : List Record → Type 0
 Proper [] = Unit {0}
 Proper (r ∷ l) = (r.texture < 256) × (1 ≤ r.points) × Proper l
 
--- the table of some records: the points of each texture, and the n textures in order of first appearance
-pub record Tally (l : List Record) (sums order : List ℕ) (n : ℕ) : Type 0 where
+-- the table of some records: the points of each texture, and the textures in order of first appearance
+pub record Tally (l : List Record) (table : Table) : Type 0 where
   pub proper : Proper l
-  pub sums_long : length sums ≡ 256
-  pub order_long : length order ≡ 256
-  pub totals : (t : ℕ) → t < 256 → slice_index sums t ≡ points_with t l
-  pub listed : take n order ≡ firsts (textures l)
-  pub count : n ≡ length (firsts (textures l))
+  pub sums_long : length table.sums ≡ 256
+  pub order_long : length table.order ≡ 256
+  pub totals : (t : ℕ) → t < 256 → slice_index table.sums t ≡ points_with t l
+  pub listed : take table.count table.order ≡ firsts (textures l)
+  pub count : table.count ≡ length (firsts (textures l))
 
 -- it is the table of some records, and others can be added: all their points together fit a word
-pub record Addable (more : List Record) (sums order : List ℕ) (n : ℕ) : Type 0 where
+pub record Addable (more : List Record) (table : Table) : Type 0 where
   pub before : List Record
-  pub tally : Tally before sums order n
+  pub tally : Tally before table
   pub fits : point_sum before + point_sum more < 4294967296
 
 -- the others were added
-abbrev pub Added : List Record → List ℕ → List ℕ → ℕ → List ℕ → List ℕ → ℕ → Type 0
-Added more sums order n sums' order' n' =
-    (before : List Record) → Tally before sums order n → point_sum before + point_sum more < 4294967296
-    → Tally (before ++ more) sums' order' n'
+abbrev pub Added : List Record → Table → Table → Type 0
+Added more table table' =
+    (before : List Record) → Tally before table → point_sum before + point_sum more < 4294967296
+    → Tally (before ++ more) table'
 
--- n textures stand in the order, all of them bytes, and the buffer has room for their words
-pub record PairRoom (order : List ℕ) (n room : ℕ) : Type 0 where
-  pub long : length order ≡ 256
-  pub few : n ≤ 256
-  pub bytes : (i : ℕ) → i < n → slice_index order i < 256
-  pub fits : 2 * n ≤ room
+-- its textures stand in the order, all of them bytes, and the buffer has room for their words
+pub record PairRoom (table : Table) (room : ℕ) : Type 0 where
+  pub long : length table.order ≡ 256
+  pub few : table.count ≤ 256
+  pub bytes : (i : ℕ) → i < table.count → slice_index table.order i < 256
+  pub fits : 2 * table.count ≤ room

@@ -2,17 +2,17 @@
 -- row by row. No promise
 -- of a public call leans on these.
 use Rattle.std.specs.Prelude.{◌≡◌, ℕ, ◌+◌, ◌-◌, ◌*◌, ◌/◌, ◌%◌, ◌^◌, ◌<◌, ◌≤◌, Bool, false, cond, ◌&&◌, List, [], ◌∷◌}
-use Rattle.std.specs.Prelude.{◌++◌, length, ◌==◌, nat_le}
+use Rattle.std.specs.Prelude.{◌++◌, length, ◌==◌, nat_le, Result}
 use Rattle.std.proofs.lemmas.List.Edits.{sets}
-use Rattle.bits.specs.Verdict.{Verdict, accepted, declined}
+use Rattle.bits.specs.Verdict.{Verdict}
 use Rattle.bits.specs.Number.{width_of}
 use Rattle.payload.specs.Mesh.{Submesh}
 use Rattle.payload.specs.MeshSpells.{aligned, vertices_at}
 use Rattle.payload.specs.Packed.{Field, bits, packed, Fits}
 use Rattle.payload.specs.MeshWrite.{gap, submeshes_fields, row_within}
 use Rattle.payload.specs.declared.mesh.write.BitWriter.{BitWriter}
-use Rattle.payload.specs.declared.mesh.judge.Judged.{Judged}
-use Rattle.payload.specs.declared.mesh.judge.Judged.TheVariants as J
+use Rattle.bits.specs.Says.{says}
+use Rattle.bits.specs.declared.refusals.Refusal.{Refusal}
 
 -- ---- bits on their way into a buffer
 
@@ -68,7 +68,5 @@ lengths_fit k q = nat_le k 67108864 && nat_le q 536870912
 abbrev pub size_of : ℕ → ℕ → ℕ → ℕ → ℕ → ℕ
 size_of n v m k q = 8 + (aligned (vertices_at n + v * width_of n) + 32 + 48 * k + q * width_of m + 7) / 8
 
-abbrev pub judged_says : Judged → Verdict ℕ
-judged_says (J.Size n) = accepted n
-judged_says J.NoMesh = declined 13
-judged_says J.NotFinite = declined 17
+abbrev pub judged_says : Result ℕ Refusal → Verdict ℕ
+judged_says r = says (λ n. n) r

@@ -33,7 +33,10 @@ pub mod Tables
 pub mod Internal
 pub mod Places
 pub mod StandingLaws
+pub mod InternalMeshes
 pub mod InternalPlaces
+pub mod InternalPoints
+pub mod InternalWalk
 pub mod InternalTextures
 pub mod Packed
 pub mod MeshWrite
@@ -45,3 +48,4 @@ pub mod FiniteLaws
 pub mod InternalWriting
 pub mod WrittenLaws
 pub mod Refusals
+pub mod InternalFill

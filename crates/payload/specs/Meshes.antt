@@ -1,18 +1,17 @@
 -- What the calls of kind 2 say, and what they leave in the buffers.
-use Rattle.std.specs.Prelude.{ℕ, List, [], ◌∷◌, length}
-use Rattle.bits.specs.Verdict.{Verdict, accepted, needs, declined, mapped}
+use Rattle.std.specs.Prelude.{ℕ, List, [], ◌∷◌, length, Result}
+use Rattle.bits.specs.Verdict.{Verdict, mapped}
 use Rattle.payload.specs.Lent.{Plan}
 use Rattle.bits.specs.Verdict.{limited}
 use Rattle.payload.specs.Mesh.{Mesh}
 use Rattle.payload.specs.MeshRead.{read_meshes}
 use Rattle.payload.specs.MeshDrawing.{drawn_numbers, drawn_floats, drawn_records, submesh_total, point_total}
-use Rattle.payload.specs.declared.mesh.draw.MeshesAnswer.{MeshesAnswer}
-use Rattle.payload.specs.declared.mesh.draw.MeshesAnswer.TheVariants as D
-use Rattle.payload.specs.declared.mesh.records.RecordsAnswer.{RecordsAnswer}
-use Rattle.payload.specs.declared.mesh.records.RecordsAnswer.TheVariants as R
+use Rattle.bits.specs.Says.{says, fill_says}
+use Rattle.bits.specs.declared.refusals.Refusal.{Refusal}
+use Rattle.bits.specs.declared.refusals.FillError.{FillError}
+use Rattle.payload.specs.declared.mesh.draw.DrawingLengths.{DrawingLengths}
+use Rattle.payload.specs.declared.mesh.records.ListCounts.{ListCounts}
 use Rattle.payload.specs.declared.mesh.measure.MeshListSize.{MeshListSize}
-use Rattle.payload.specs.declared.mesh.measure.Measured.{Measured}
-use Rattle.payload.specs.declared.mesh.measure.Measured.TheVariants as M
 
 -- a mesh list by its counts, and the lengths of its drawing's three lists
 unfoldable pub list_size : List Mesh → MeshListSize
@@ -26,9 +25,8 @@ list_size l =
       records = length (drawn_records l);
     }
 
-abbrev pub measured_says : Measured → Verdict MeshListSize
-measured_says (M.Size n) = accepted n
-measured_says (M.Declined k) = declined k
+abbrev pub measured_says : Result MeshListSize Refusal → Verdict MeshListSize
+measured_says r = says (λ n. n) r
 
 -- ---- drawing a payload's mesh list into three buffers
 
@@ -40,10 +38,8 @@ drawn_meshes l = record { answer = list_size l; lists = drawn_numbers l ∷ draw
 abbrev pub meshes_plan : List ℕ → Verdict (Plan MeshListSize)
 meshes_plan s = mapped drawn_meshes (limited s (read_meshes s))
 
-abbrev pub meshes_says : MeshesAnswer → Verdict MeshListSize
-meshes_says (D.Drawn n) = accepted n
-meshes_says (D.Needs n f r) = needs (n ∷ f ∷ r ∷ [])
-meshes_says (D.Declined k) = declined k
+abbrev pub meshes_says : Result MeshListSize (FillError DrawingLengths) → Verdict MeshListSize
+meshes_says r = fill_says (λ n. n) (λ n. n.numbers ∷ n.floats ∷ n.records ∷ []) r
 
 -- ---- its records alone, into one buffer
 
@@ -57,7 +53,5 @@ recorded_meshes l = record { answer = list_counts l; lists = drawn_records l ∷
 abbrev pub records_plan : List ℕ → Verdict (Plan (ℕ × ℕ × ℕ))
 records_plan s = mapped recorded_meshes (limited s (read_meshes s))
 
-abbrev pub records_says : RecordsAnswer → Verdict (ℕ × ℕ × ℕ)
-records_says (R.Counts meshes submeshes points) = accepted (meshes, submeshes, points)
-records_says (R.Needs r) = needs (r ∷ [])
-records_says (R.Declined k) = declined k
+abbrev pub records_says : Result ListCounts (FillError ℕ) → Verdict (ℕ × ℕ × ℕ)
+records_says r = fill_says (λ n. (n.meshes, n.submeshes, n.points)) (λ n. n ∷ []) r

@@ -1,5 +1,5 @@
 -- Where the bodies of a list's meshes stand, and where the points of a submesh do.
-use Rattle.std.specs.Prelude.{ℕ, zero, suc, ◌+◌, ◌-◌, cond, List, [], ◌∷◌, length, ◌==◌, nat_lt}
+use Rattle.std.specs.Prelude.{ℕ, zero, suc, ◌+◌, ◌-◌, cond, List, [], ◌∷◌, length, ◌==◌, nat_lt, Result}
 use Rattle.bits.specs.Verdict.{Verdict, accepted, needs, declined, and_then, mapped, limited}
 use Rattle.bits.specs.Number.{width_of}
 use Rattle.bits.specs.Header.{Item, list_end, box, header_at}
@@ -8,8 +8,8 @@ use Rattle.payload.specs.Mesh.{Submesh, Mesh}
 use Rattle.payload.specs.MeshSpells.{submesh_bits, mesh_vertices, submeshes_at, mesh_type, part}
 use Rattle.payload.specs.MeshRead.{read_meshes}
 use Rattle.payload.specs.declared.mesh.find.PointFields.{PointFields}
-use Rattle.payload.specs.declared.mesh.find.SubmeshFound.{SubmeshFound}
-use Rattle.payload.specs.declared.mesh.find.SubmeshFound.TheVariants as F
+use Rattle.bits.specs.Says.{says}
+use Rattle.bits.specs.declared.refusals.Refusal.{Refusal}
 
 -- ---- the bodies
 
@@ -86,6 +86,5 @@ submesh_found s j = and_then (limited s (read_meshes s)) (λ l. standing_from s 
 abbrev pub place_found : List ℕ → ℕ → Verdict PointFields
 place_found s j = mapped (λ x. x.place) (submesh_found s j)
 
-abbrev pub found_says : SubmeshFound → Verdict PointFields
-found_says (F.At p) = accepted p
-found_says (F.Declined k) = declined k
+abbrev pub found_says : Result PointFields Refusal → Verdict PointFields
+found_says r = says (λ p. p) r

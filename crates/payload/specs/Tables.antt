@@ -1,15 +1,14 @@
 -- A mesh body as four tables: what the call says, and what it leaves in the buffers.
-use Rattle.std.specs.Prelude.{ℕ, List, [], ◌∷◌, ◌++◌, length}
-use Rattle.bits.specs.Verdict.{Verdict, accepted, needs, declined, mapped}
+use Rattle.std.specs.Prelude.{ℕ, List, [], ◌∷◌, ◌++◌, length, Result}
+use Rattle.bits.specs.Verdict.{Verdict, mapped}
 use Rattle.payload.specs.Lent.{Plan}
 use Rattle.bits.specs.Verdict.{limited}
 use Rattle.payload.specs.Mesh.{Submesh, Mesh}
 use Rattle.payload.specs.MeshRead.{read_mesh}
 use Rattle.payload.specs.declared.mesh.measure.TableLengths.{TableLengths}
-use Rattle.payload.specs.declared.mesh.measure.MeshMeasured.{MeshMeasured}
-use Rattle.payload.specs.declared.mesh.measure.MeshMeasured.TheVariants as M
-use Rattle.payload.specs.declared.mesh.tables.TablesAnswer.{TablesAnswer}
-use Rattle.payload.specs.declared.mesh.tables.TablesAnswer.TheVariants as A
+use Rattle.bits.specs.Says.{says, fill_says}
+use Rattle.bits.specs.declared.refusals.Refusal.{Refusal}
+use Rattle.bits.specs.declared.refusals.FillError.{FillError}
 
 -- ---- the four lists of a mesh: its pool, its coordinate numbers, and these two
 
@@ -50,9 +49,8 @@ table_lengths x =
 abbrev pub body_read : List ℕ → Verdict Mesh
 body_read s = limited s (mapped (λ x. x.0) (read_mesh s))
 
-abbrev pub table_lengths_says : MeshMeasured → Verdict TableLengths
-table_lengths_says (M.Lengths n) = accepted n
-table_lengths_says (M.Declined k) = declined k
+abbrev pub table_lengths_says : Result TableLengths Refusal → Verdict TableLengths
+table_lengths_says r = says (λ n. n) r
 
 -- ---- reading a body into four buffers
 
@@ -67,7 +65,5 @@ tables_of x =
 abbrev pub tables_plan : List ℕ → Verdict (Plan TableLengths)
 tables_plan s = mapped tables_of (body_read s)
 
-abbrev pub tables_says : TablesAnswer → Verdict TableLengths
-tables_says (A.Tables n) = accepted n
-tables_says (A.Needs n) = needs (n.pool ∷ n.coordinates ∷ n.submeshes ∷ n.points ∷ [])
-tables_says (A.Declined k) = declined k
+abbrev pub tables_says : Result TableLengths (FillError TableLengths) → Verdict TableLengths
+tables_says r = fill_says (λ n. n) (λ n. n.pool ∷ n.coordinates ∷ n.submeshes ∷ n.points ∷ []) r

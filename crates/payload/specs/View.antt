@@ -1,10 +1,12 @@
 -- The viewer's small calls, case by case.
 use Rattle.std.specs.Prelude.{ℕ, Bool, true, false, cond, not, ◌||◌, List, [], ◌∷◌, ◌==◌, from_bits, Float}
+use Rattle.std.specs.Prelude.{Option, Some, None}
 use Rattle.std.specs.Float.{binary32}
 use Rattle.std.specs.Float.Ieee.{lt, le}
 use Rattle.std.specs.Float.Ieee.Scale.{finite}
 use Rattle.payload.specs.Float.{f0, f¼, f½, f1, ◌⊘◌}
 use Rattle.payload.specs.Crop.{full}
+use Rattle.payload.specs.declared.crop.Bounds.{Bounds}
 use Rattle.payload.specs.declared.view.StereoLayout.{StereoLayout}
 use Rattle.payload.specs.declared.view.StereoLayout.TheVariants as S
 use Rattle.payload.specs.declared.view.AnaglyphPair.{AnaglyphPair}
@@ -13,8 +15,6 @@ use Rattle.payload.specs.declared.view.Projection.{Projection}
 use Rattle.payload.specs.declared.view.Projection.TheVariants as P
 use Rattle.payload.specs.declared.view.Eye.{Eye}
 use Rattle.payload.specs.declared.view.Eye.TheVariants.{Left, Right}
-use Rattle.payload.specs.declared.view.Patch.{Patch}
-use Rattle.payload.specs.declared.view.Patch.TheVariants as B
 
 -- ---- the raw numbers of the layout types
 
@@ -45,11 +45,11 @@ panoramic P.Cubemap = true
 panoramic P.Flat = false
 
 -- the patch of the sphere that a projection is short for, if it is one
-abbrev pub patch_of : Projection → Patch
-patch_of P.Equirect360 = B.Sphere full
-patch_of P.Equirect180 = B.Sphere (record { top = f0; bottom = f0; left = f¼; right = f¼ })
-patch_of P.Cubemap = B.Nothing
-patch_of P.Flat = B.Nothing
+abbrev pub patch_of : Projection → Option Bounds
+patch_of P.Equirect360 = Some full
+patch_of P.Equirect180 = Some (record { top = f0; bottom = f0; left = f¼; right = f¼ })
+patch_of P.Cubemap = None
+patch_of P.Flat = None
 
 -- the texture window of an eye: u scale, u offset, v scale, v offset
 abbrev pub window_of : StereoLayout → Eye → List Float

@@ -1,15 +1,12 @@
-// What a call that fills one lent buffer answers: how many items it made, the length that the buffer needs, or the
-// number of a refusal.
-#[derive(Clone, Copy)]
-pub enum Filled {
-    Count(usize),
-    Needs(usize),
-    Declined(u8),
-}
+// What calls answer that fill one lent buffer, and how long the two lists of a grid are.
+use bits::FillError;
 
-// How long the two lists of a grid are, or the number of a refusal.
+// How many items it made, or why it made none: with the length that the buffer needs, where that is why.
+pub type Filled = Result<usize, FillError<usize>>;
+
+// How long the numbers and the floats of a grid are.
 #[derive(Clone, Copy)]
-pub enum GridLengths {
-    Lengths { numbers: usize, floats: usize },
-    Declined(u8),
+pub struct GridLengths {
+    pub numbers: usize,
+    pub floats: usize,
 }

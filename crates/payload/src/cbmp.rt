@@ -6,46 +6,33 @@ ghost use Rattle.bits.specs.Verdict.{limited};
 ghost use Rattle.payload.specs.Cbmp.{layout_then_padding, cbmp_read, cbmp_says, cbmp_written};
 
 use super::answers::Filled;
-use super::full_box::{FullBox, full_box};
+use super::full_box::full_box;
 use super::words::fill_words;
-use bits::{ByteCursor, WordRead};
+use bits::{ByteCursor, FillError, Refusal};
 
-// A padding, or the number of a refusal.
-#[derive(Clone, Copy)]
-pub enum CbmpAnswer {
-    Padding(u32),
-    Declined(u8),
-}
-
-fn layout_then_padding(s: &[u8], start: ByteCursor) -> CbmpAnswer
+// The padding behind a layout, which must be 0.
+fn layout_then_padding(s: &[u8], start: ByteCursor) -> Result<u32, Refusal>
     ensures { cbmp_says result ≡ layout_then_padding s.now start.at }
 {
-    let WordRead::Value(layout, after) = start.u32(s) else {
-        return CbmpAnswer::Declined(3);
-    };
+    let (layout, after) = start.u32(s)?;
     if layout != 0 {
-        return CbmpAnswer::Declined(5);
+        return Err(Refusal::CubeLayout);
     }
-    let WordRead::Value(padding, _) = after.u32(s) else {
-        return CbmpAnswer::Declined(3);
-    };
+    let (padding, _) = after.u32(s)?;
     if 4096 < padding {
-        return CbmpAnswer::Declined(5);
+        return Err(Refusal::CubeLayout);
     }
-    CbmpAnswer::Padding(padding)
+    Ok(padding)
 }
 
-// Reads a cbmp payload: 2, then 3, 4 and 5 in field order.
-pub fn parse_cbmp(payload: &[u8]) -> CbmpAnswer
+// Reads a cbmp payload, its padding: 2, then 3, 4 and 5 in field order.
+pub fn parse_cbmp(payload: &[u8]) -> Result<u32, Refusal>
     ensures { cbmp_says result ≡ limited payload.now (cbmp_read payload.now) }
 {
     if 67_108_864 < payload.len() {
-        return CbmpAnswer::Declined(2);
+        return Err(Refusal::PayloadTooLong);
     }
-    match full_box(payload) {
-        FullBox::Declined(k) => CbmpAnswer::Declined(k),
-        FullBox::Body(c) => layout_then_padding(payload, c),
-    }
+    layout_then_padding(payload, full_box(payload)?)
 }
 
 // Writes a cbmp payload of 12 bytes at the front of a buffer: 5, then 12.
@@ -56,7 +43,7 @@ pub fn write_cbmp(padding: u32, out: &mut [u8]) -> Filled
         ≡ buffers_after (in_items 1 (cbmp_written padding)) (at_entry (out ∷ [])) }
 {
     if 4096 < padding {
-        return Filled::Declined(5);
+        return Err(FillError::Refused(Refusal::CubeLayout));
     }
     let words = [0, 0, padding];
     fill_words(out, &words)

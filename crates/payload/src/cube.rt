@@ -1,7 +1,7 @@
 // The cube map: the triangles and the vertices of six faces, each a grid of cells.
-ghost use Rattle.std.specs.Prelude.{◌≡◌, ◌+◌, ◌<◌, ◌≤◌, [], ◌∷◌, length};
+ghost use Rattle.std.specs.Prelude.{◌≡◌, ◌+◌, ◌*◌, ◌<◌, ◌≤◌, false, [], ◌∷◌, length, IfOk, MatchResult};
 ghost use Rattle.std.proofs.lemmas.List.Edits.{sets};
-ghost use Rattle.std.specs.Float.Ieee.Scale.{finite};
+ghost use Rattle.bits.specs.Says.{says};
 ghost use Rattle.payload.specs.Fill.{filled_says, both_lengths, grid_lengths_says};
 ghost use Rattle.payload.specs.Lent.{in_items, answer_for, buffers_after, at_entry};
 ghost use Rattle.payload.specs.Float.{ratio};
@@ -10,71 +10,91 @@ ghost use Rattle.payload.specs.Cube.{point_face, cube_points, cube_floats};
 ghost use Rattle.payload.specs.InternalCube.{cell_of, Makes, face_of, along, between, point_of, row_of};
 
 use super::answers::{Filled, GridLengths};
-use super::put_triangle;
-use bits::{float_bits, nearest_f32};
+use super::{put, put_each, small_ratio};
+use bits::{FillError, Refusal, float_bits, nearest_f32};
 
-fn cells_usable(cells: u32) -> bool
-    ensures { result ≡ cells_usable cells }
-{
-    (1 <= cells) & (cells <= 103)
+// How many cells an edge of a face has: so few that the numbers of the cube's vertices fit a u16.
+#[derive(Clone, Copy)]
+struct Cells {
+    n: u32,
+    ghost few: { (1 ≤ n) × (n ≤ 103) },
+}
+
+impl Cells {
+    fn new(n: u32) -> Result<Cells, Refusal>
+        ensures { MatchResult result (λ c. c.n ≡ n) (λ e. (e ≡ Refusal.Grid) × (cells_usable n ≡ false)) }
+    {
+        if n < 1 || 103 < n {
+            return Err(Refusal::Grid);
+        }
+        Ok(Cells { n })
+    }
+
+    // How many numbers the triangles have: two triangles to a cell.
+    fn numbers(self) -> usize
+        ensures { result ≡ length (cube_triangles self.n) }
+    {
+        let n = self.n as usize;
+        36 * (n * n)
+    }
+
+    fn vertices(self) -> usize
+        ensures number { result ≡ 6 * ((self.n + 1) * (self.n + 1)) }
+        ensures few { result ≤ 64896 }
+    {
+        let n = self.n as usize + 1;
+        6 * (n * n)
+    }
 }
 
 // ---- triangles
 
 // The two triangles of a cell with a and b in one row of the grid and c and d in the next, stride vertices on.
-fn put_cell(a: u16, stride: u16, at: usize, out: &mut [u16])
-    requires { (a + stride + 1 < 65536) × (at + 6 ≤ length out.old) }
-    ensures { out.new ≡ sets out.old at (cell_of a stride) }
+fn cell_of(a: u16, stride: u16) -> [u16; 6]
+    requires { a + stride + 1 < 65536 }
+    ensures { result ≡ cell_of a stride }
 {
     let b = a + 1;
     let c = a + stride;
     let d = c + 1;
-    put_triangle(out, at, a, d, c);
-    put_triangle(out, at + 3, a, b, d);
+    [a, d, c, a, b, d]
 }
 
 // A row of cells, from out[at] on. The answer is the place after it, here and below.
-fn index_row(cells: u32, face: u32, y: u32, at: usize, out: &mut [u16]) -> usize
-    requires { (cells ≤ 103) × (face < 6) × (y < cells) × (at + length (cube_row cells face y) ≤ length out.old) }
-    ensures place { result ≡ at + length (cube_row cells face y) }
-    ensures numbers { out.new ≡ sets out.old at (cube_row cells face y) }
+fn index_row(cells: Cells, face: u32, y: u32, at: usize, out: &mut [u16]) -> usize
+    requires cell_bound { (face < 6) × (y < cells.n) }
+    requires room { at + length (cube_row cells.n face y) ≤ length out.old }
+    ensures place { result ≡ at + length (cube_row cells.n face y) }
+    ensures numbers { out.new ≡ sets out.old at (cube_row cells.n face y) }
 {
-    let stride = cells + 1;
+    let stride = cells.n + 1;
     let first = face * (stride * stride) + y * stride;
     let mut to = at;
-    let mut x: u32 = 0;
-    while x < cells {
-        put_cell((first + x) as u16, stride as u16, to, out);
-        to += 6;
-        x += 1;
+    for x in 0..cells.n {
+        to = put(out, to, &cell_of((first + x) as u16, stride as u16));
     }
     to
 }
 
-fn index_face(cells: u32, face: u32, at: usize, out: &mut [u16]) -> usize
-    requires { (cells ≤ 103) × (face < 6) × (at + length (cube_face cells face) ≤ length out.old) }
-    ensures place { result ≡ at + length (cube_face cells face) }
-    ensures numbers { out.new ≡ sets out.old at (cube_face cells face) }
+fn index_face(cells: Cells, face: u32, at: usize, out: &mut [u16]) -> usize
+    requires face_bound { face < 6 }
+    requires room { at + length (cube_face cells.n face) ≤ length out.old }
+    ensures place { result ≡ at + length (cube_face cells.n face) }
+    ensures numbers { out.new ≡ sets out.old at (cube_face cells.n face) }
 {
-    let mut to = at;
-    let mut y: u32 = 0;
-    while y < cells {
-        to = index_row(cells, face, y, to, out);
-        y += 1;
-    }
-    to
+    put_each(
+        cells.n,
+        at,
+        out,
+        |y, to, out| index_row(cells, face, y, to, out),
+    )
 }
 
-fn index_cube(cells: u32, out: &mut [u16])
-    requires { (cells ≤ 103) × (length (cube_triangles cells) ≤ length out.old) }
-    ensures { out.new ≡ sets out.old 0 (cube_triangles cells) }
+fn index_cube(cells: Cells, out: &mut [u16])
+    requires { length (cube_triangles cells.n) ≤ length out.old }
+    ensures { out.new ≡ sets out.old 0 (cube_triangles cells.n) }
 {
-    let mut to: usize = 0;
-    let mut face: u32 = 0;
-    while face < 6 {
-        to = index_face(cells, face, to, out);
-        face += 1;
-    }
+    put_each(6, 0, out, |face, to, out| index_face(cells, face, to, out));
 }
 
 // Puts the triangles into out: 9, 12, or how many numbers.
@@ -84,16 +104,13 @@ pub fn cubemap_indices(cells: u32, out: &mut [u16]) -> Filled
     ensures buffers { out.new ∷ []
         ≡ buffers_after (in_items 1 (cube_numbers cells)) (at_entry (out ∷ [])) }
 {
-    if !cells_usable(cells) {
-        return Filled::Declined(9);
-    }
-    let n = cells as usize;
-    let count = 36 * (n * n);
+    let cells = Cells::new(cells)?;
+    let count = cells.numbers();
     if out.len() < count {
-        return Filled::Needs(count);
+        return Err(FillError::Needs(count));
     }
     index_cube(cells, out);
-    Filled::Count(count)
+    Ok(count)
 }
 
 // ---- vertices
@@ -174,47 +191,37 @@ fn between(low: f32, high: f32, s: f32) -> u32
 }
 
 // The point at the shares s and t of a face's width and height.
-fn put_point(radius: f32, face: Face, s: f32, t: f32, at: usize, out: &mut [u32])
-    requires { at + 5 ≤ length out.old }
-    ensures { out.new ≡ sets out.old at (point_of radius face s t) }
+fn point_of(radius: f32, face: Face, s: f32, t: f32) -> [u32; 5]
+    ensures { result ≡ point_of radius face s t }
 {
     let a = 2.0 * s - 1.0;
     let b = 2.0 * t - 1.0;
-    out[at] = along(radius, face.x, a, b);
-    out[at + 1] = along(radius, face.y, a, b);
-    out[at + 2] = along(radius, face.z, a, b);
-    out[at + 3] = between(face.u0, face.u1, s);
-    out[at + 4] = between(face.v0, face.v1, t);
-}
-
-// As padding_share, of numbers that a cast takes exactly.
-fn small_ratio(x: u32, n: u32) -> f32
-    requires { (x ≤ 103) × (n ≤ 103) }
-    ensures { result ≡ ratio x n }
-{
-    x as f32 / n as f32
+    [
+        along(radius, face.x, a, b),
+        along(radius, face.y, a, b),
+        along(radius, face.z, a, b),
+        between(face.u0, face.u1, s),
+        between(face.v0, face.v1, t),
+    ]
 }
 
 // A row of points, from out[at] on.
-fn point_row(cells: u32, radius: f32, face: Face, y: u32, at: usize, out: &mut [u32]) -> usize
-    requires { (cells ≤ 103) × (y ≤ cells) × (at + length (row_of cells radius face y) ≤ length out.old) }
-    ensures place { result ≡ at + length (row_of cells radius face y) }
-    ensures floats { out.new ≡ sets out.old at (row_of cells radius face y) }
+fn point_row(cells: Cells, radius: f32, face: Face, y: u32, at: usize, out: &mut [u32]) -> usize
+    requires row_bound { y ≤ cells.n }
+    requires room { at + length (row_of cells.n radius face y) ≤ length out.old }
+    ensures place { result ≡ at + length (row_of cells.n radius face y) }
+    ensures floats { out.new ≡ sets out.old at (row_of cells.n radius face y) }
 {
-    let n = cells + 1;
-    let t = small_ratio(y, cells);
+    let t = small_ratio(y, cells.n);
     let mut to = at;
-    let mut x: u32 = 0;
-    while x < n {
-        put_point(radius, face, small_ratio(x, cells), t, to, out);
-        to += 5;
-        x += 1;
+    for x in 0..cells.n + 1 {
+        to = put(out, to, &point_of(radius, face, small_ratio(x, cells.n), t));
     }
     to
 }
 
 fn point_face(
-    cells: u32,
+    cells: Cells,
     radius: f32,
     share: f32,
     codes: [i8; 9],
@@ -222,41 +229,31 @@ fn point_face(
     at: usize,
     out: &mut [u32],
 ) -> usize
-    requires { (cells ≤ 103) × (face < 6) × Makes codes face
-        × (at + length (point_face cells radius share face) ≤ length out.old) }
-    ensures place { result ≡ at + length (point_face cells radius share face) }
-    ensures floats { out.new ≡ sets out.old at (point_face cells radius share face) }
+    requires face_bound { face < 6 }
+    requires made { Makes codes face }
+    requires room { at + length (point_face cells.n radius share face) ≤ length out.old }
+    ensures place { result ≡ at + length (point_face cells.n radius share face) }
+    ensures floats { out.new ≡ sets out.old at (point_face cells.n radius share face) }
 {
     let f = face_of(codes, face, share);
-    let n = cells + 1;
-    let mut to = at;
-    let mut y: u32 = 0;
-    while y < n {
-        to = point_row(cells, radius, f, y, to, out);
-        y += 1;
-    }
-    to
+    put_each(
+        cells.n + 1,
+        at,
+        out,
+        |y, to, out| point_row(cells, radius, f, y, to, out),
+    )
 }
 
-fn point_cube(cells: u32, radius: f32, share: f32, out: &mut [u32])
-    requires { (cells ≤ 103) × (length (cube_points cells radius share) ≤ length out.old) }
-    ensures { out.new ≡ sets out.old 0 (cube_points cells radius share) }
+fn point_cube(cells: Cells, radius: f32, share: f32, out: &mut [u32])
+    requires { length (cube_points cells.n radius share) ≤ length out.old }
+    ensures { out.new ≡ sets out.old 0 (cube_points cells.n radius share) }
 {
     // taken once: taken for each face it would be laid out anew, and a cube of one cell take a sixth longer
     let faces = CUBE_FACES;
     let mut to: usize = 0;
-    let mut face: u32 = 0;
-    while face < 6 {
+    for face in 0..6 {
         to = point_face(cells, radius, share, faces[face as usize], face, to, out);
-        face += 1;
     }
-}
-
-fn is_finite(x: f32) -> bool
-    ensures { result ≡ finite x }
-{
-    let infinite: f32 = 1.0 / 0.0;
-    (-infinite < x) & (x < infinite)
 }
 
 // A NaN and the infinities fail one of the comparisons.
@@ -266,6 +263,18 @@ fn share_usable(x: f32) -> bool
     (0.0 <= x) & (x < 0.5)
 }
 
+// The cells of a cube whose vertices can have this radius and padding.
+fn mesh_cells(cells: u32, radius: f32, padding: f32) -> Result<Cells, Refusal>
+    ensures size { IfOk result (λ c. c.n ≡ cells) }
+    ensures floats { says (λ c. cube_points c.n radius padding) result ≡ cube_floats cells radius padding }
+{
+    let cells = Cells::new(cells)?;
+    if !(radius.is_finite() & share_usable(padding)) {
+        return Err(Refusal::RadiusOrFaceWidth);
+    }
+    Ok(cells)
+}
+
 // Puts the vertices into out, x y z u v each, as the bits of floats: 9, 11, 12, or how many vertices.
 pub fn cubemap_mesh(cells: u32, radius: f32, padding: f32, out: &mut [u32]) -> Filled
     ensures answer { filled_says result
@@ -273,36 +282,24 @@ pub fn cubemap_mesh(cells: u32, radius: f32, padding: f32, out: &mut [u32]) -> F
     ensures buffers { out.new ∷ []
         ≡ buffers_after (in_items 5 (cube_floats cells radius padding)) (at_entry (out ∷ [])) }
 {
-    if !cells_usable(cells) {
-        return Filled::Declined(9);
-    }
-    if !(is_finite(radius) & share_usable(padding)) {
-        return Filled::Declined(11);
-    }
-    let n = cells as usize + 1;
-    let count = 6 * (n * n);
+    let cells = mesh_cells(cells, radius, padding)?;
+    let count = cells.vertices();
     if out.len() < 5 * count {
-        return Filled::Needs(5 * count);
+        return Err(FillError::Needs(5 * count));
     }
     point_cube(cells, radius, padding, out);
-    Filled::Count(count)
+    Ok(count)
 }
 
 // How long the numbers and the vertices' floats are: 9, 11, or both lengths.
-pub fn cubemap_lengths(cells: u32, radius: f32, padding: f32) -> GridLengths
+pub fn cubemap_lengths(cells: u32, radius: f32, padding: f32) -> Result<GridLengths, Refusal>
     ensures { grid_lengths_says result ≡ both_lengths (cube_numbers cells) (cube_floats cells radius padding) }
 {
-    if !cells_usable(cells) {
-        return GridLengths::Declined(9);
-    }
-    if !(is_finite(radius) & share_usable(padding)) {
-        return GridLengths::Declined(11);
-    }
-    let n = cells as usize;
-    GridLengths::Lengths {
-        numbers: 36 * (n * n),
-        floats: 30 * ((n + 1) * (n + 1)),
-    }
+    let cells = mesh_cells(cells, radius, padding)?;
+    Ok(GridLengths {
+        numbers: cells.numbers(),
+        floats: 5 * cells.vertices(),
+    })
 }
 
 // The share of a face's width that its padding takes on each side.

@@ -9,9 +9,9 @@ ghost use Rattle.payload.specs.Equi.{equi_read_says, equi_says, equi_written};
 
 use super::answers::Filled;
 use super::crop::Bounds;
-use super::full_box::{FullBox, full_box};
+use super::full_box::full_box;
 use super::words::fill_words;
-use bits::{ByteCursor, WordRead};
+use bits::{ByteCursor, FillError, Refusal};
 
 // The four fields, each a fraction of 32 bits.
 #[derive(Clone, Copy)]
@@ -35,68 +35,42 @@ impl EquiFields {
     }
 }
 
-// The fields of a payload, whatever crop they make.
-#[derive(Clone, Copy)]
-pub enum EquiRead {
-    Fields(EquiFields),
-    Declined(u8),
-}
-
-// A reading with its crop, or the number of a refusal.
-#[derive(Clone, Copy)]
-pub enum EquiAnswer {
-    Reading(EquiFields, Bounds),
-    Declined(u8),
-}
-
-fn four_words(s: &[u8], start: ByteCursor) -> EquiRead
+fn four_words(s: &[u8], start: ByteCursor) -> Result<EquiFields, Refusal>
     ensures { equi_read_says result ≡ four_words s.now start.at }
 {
-    let WordRead::Value(t, after_t) = start.u32(s) else {
-        return EquiRead::Declined(3);
-    };
-    let WordRead::Value(b, after_b) = after_t.u32(s) else {
-        return EquiRead::Declined(3);
-    };
-    let WordRead::Value(l, after_l) = after_b.u32(s) else {
-        return EquiRead::Declined(3);
-    };
-    let WordRead::Value(r, _) = after_l.u32(s) else {
-        return EquiRead::Declined(3);
-    };
-    EquiRead::Fields(EquiFields { t, b, l, r })
+    let (t, after_t) = start.u32(s)?;
+    let (b, after_b) = after_t.u32(s)?;
+    let (l, after_l) = after_b.u32(s)?;
+    let (r, _) = after_l.u32(s)?;
+    Ok(EquiFields { t, b, l, r })
 }
 
-fn equi_fields(s: &[u8]) -> EquiRead
+// The fields of a payload, whatever crop they make.
+fn equi_fields(s: &[u8]) -> Result<EquiFields, Refusal>
     ensures { equi_read_says result ≡ equi_fields s.now }
 {
-    match full_box(s) {
-        FullBox::Declined(k) => EquiRead::Declined(k),
-        FullBox::Body(c) => four_words(s, c),
-    }
+    four_words(s, full_box(s)?)
 }
 
-fn judged(fields: EquiFields) -> EquiAnswer
+// The fields with their crop, which must be usable.
+fn judged(fields: EquiFields) -> Result<(EquiFields, Bounds), Refusal>
     ensures { equi_says result ≡ mapped with_crop (equi_usable fields) }
 {
     let crop = fields.crop();
     if crop.is_usable() {
-        return EquiAnswer::Reading(fields, crop);
+        return Ok((fields, crop));
     }
-    EquiAnswer::Declined(10)
+    Err(Refusal::Crop)
 }
 
-// Reads an equi payload: 2, then 3 and 4 in field order, then 10.
-pub fn parse_equi(payload: &[u8]) -> EquiAnswer
+// Reads an equi payload, and its crop: 2, then 3 and 4 in field order, then 10.
+pub fn parse_equi(payload: &[u8]) -> Result<(EquiFields, Bounds), Refusal>
     ensures { equi_says result ≡ limited payload.now (mapped with_crop (equi_read payload.now)) }
 {
     if 67_108_864 < payload.len() {
-        return EquiAnswer::Declined(2);
+        return Err(Refusal::PayloadTooLong);
     }
-    match equi_fields(payload) {
-        EquiRead::Declined(k) => EquiAnswer::Declined(k),
-        EquiRead::Fields(fields) => judged(fields),
-    }
+    judged(equi_fields(payload)?)
 }
 
 // Writes an equi payload of 20 bytes at the front of a buffer: 10, then 12.
@@ -107,7 +81,7 @@ pub fn write_equi(fields: EquiFields, out: &mut [u8]) -> Filled
         ≡ buffers_after (in_items 1 (equi_written fields)) (at_entry (out ∷ [])) }
 {
     if !fields.crop().is_usable() {
-        return Filled::Declined(10);
+        return Err(FillError::Refused(Refusal::Crop));
     }
     let words = [0, fields.t, fields.b, fields.l, fields.r];
     fill_words(out, &words)

@@ -2,25 +2,15 @@
 ghost use Rattle.std.specs.Prelude.{◌≡◌};
 ghost use Rattle.payload.specs.Payload.{full_box, full_box_says};
 
-use bits::{ByteCursor, ByteRead, Seek};
+use bits::{ByteCursor, Refusal};
 
-#[derive(Clone, Copy)]
-pub(crate) enum FullBox {
-    Body(ByteCursor),
-    Declined(u8),
-}
-
-pub(crate) fn full_box(s: &[u8]) -> FullBox
+// The place where the body begins.
+pub(crate) fn full_box(s: &[u8]) -> Result<ByteCursor, Refusal>
     ensures { full_box_says result ≡ full_box s.now }
 {
-    let ByteRead::Value(version, after) = ByteCursor::new().u8(s) else {
-        return FullBox::Declined(3);
-    };
+    let (version, after) = ByteCursor::new().u8(s)?;
     if version != 0 {
-        return FullBox::Declined(4);
+        return Err(Refusal::Version);
     }
-    let Seek::To(body) = after.skip(s, 3) else {
-        return FullBox::Declined(3);
-    };
-    FullBox::Body(body)
+    after.skip(s, 3)
 }

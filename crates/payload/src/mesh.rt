@@ -6,6 +6,7 @@ mod find;
 mod head;
 mod judge;
 mod measure;
+mod meshes;
 mod places;
 mod points;
 mod records;
@@ -15,13 +16,11 @@ mod textures;
 mod vertices;
 mod write;
 
-pub use draw::{MeshesAnswer, parse_meshes};
-pub use find::{PointFields, SubmeshFound, find_submesh};
-pub use measure::{
-    Measured, MeshListSize, MeshMeasured, TableLengths, measure_mesh, measure_meshes,
-};
-pub use records::{Record, RecordsAnswer, mesh_records};
-pub use tables::{TablesAnswer, parse_mesh};
+pub use draw::{DrawingLengths, parse_meshes};
+pub use find::{PointFields, find_submesh};
+pub use measure::{MeshListSize, TableLengths, measure_mesh, measure_meshes};
+pub use records::{ListCounts, Record, mesh_records};
+pub use tables::parse_mesh;
 pub use textures::texture_points;
 pub use write::write_mesh;
 

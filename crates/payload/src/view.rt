@@ -1,7 +1,7 @@
 // The viewer's small calls: stereo layouts, projections, texture windows, zoom and field of view.
 ghost use Rattle.std.specs.Prelude.{◌≡◌};
 ghost use Rattle.payload.specs.View.{layout_of, pair_of, projection_of, windowed, panoramic, patch_of};
-ghost use Rattle.payload.specs.View.{window_of, mix_of, clamped, unusable, fov_for_zoom, zoom_for_fov};
+ghost use Rattle.payload.specs.View.{window_of, mix_of, unusable, fov_for_zoom, zoom_for_fov};
 
 use super::crop::Bounds;
 
@@ -14,7 +14,7 @@ pub const MAX_FOV_DEG: f32 = 100.0;
 pub const DEFAULT_FOV_DEG: f32 = 25.76;
 
 // How a frame holds the pictures of the two eyes.
-#[derive(Clone, Copy)]
+#[derive(Clone, Copy, Debug, PartialEq, Eq)]
 pub enum StereoLayout {
     Mono,
     OverUnder,
@@ -23,10 +23,10 @@ pub enum StereoLayout {
     RowInterleaved,
 }
 
-impl StereoLayout {
-    pub fn from_raw(v: u32) -> StereoLayout
-        ensures { result ≡ layout_of v }
-    {
+impl From<u32> for StereoLayout {
+    ghost from_gives = { λ v layout. layout ≡ layout_of v };
+
+    fn from(v: u32) -> StereoLayout {
         match v {
             1 => StereoLayout::OverUnder,
             2 => StereoLayout::SideBySide,
@@ -35,33 +35,35 @@ impl StereoLayout {
             _ => StereoLayout::Mono,
         }
     }
+}
+
+impl StereoLayout {
+    pub fn from_raw(v: u32) -> StereoLayout
+        ensures { result ≡ layout_of v }
+    {
+        v.into()
+    }
 
     // Whether each eye's picture is a rectangle of the frame.
     pub fn is_windowed(self) -> bool
         ensures { result ≡ windowed self }
     {
-        match self {
-            StereoLayout::Mono => true,
-            StereoLayout::OverUnder => true,
-            StereoLayout::SideBySide => true,
-            StereoLayout::Anaglyph => false,
-            StereoLayout::RowInterleaved => false,
-        }
+        !matches!(self, StereoLayout::Anaglyph | StereoLayout::RowInterleaved)
     }
 }
 
 // The two colours of an anaglyph frame, the left eye's first.
-#[derive(Clone, Copy)]
+#[derive(Clone, Copy, Debug, PartialEq, Eq)]
 pub enum AnaglyphPair {
     RedCyan,
     GreenMagenta,
     YellowBlue,
 }
 
-impl AnaglyphPair {
-    pub fn from_raw(v: u32) -> AnaglyphPair
-        ensures { result ≡ pair_of v }
-    {
+impl From<u32> for AnaglyphPair {
+    ghost from_gives = { λ v pair. pair ≡ pair_of v };
+
+    fn from(v: u32) -> AnaglyphPair {
         match v {
             1 => AnaglyphPair::GreenMagenta,
             2 => AnaglyphPair::YellowBlue,
@@ -70,8 +72,16 @@ impl AnaglyphPair {
     }
 }
 
+impl AnaglyphPair {
+    pub fn from_raw(v: u32) -> AnaglyphPair
+        ensures { result ≡ pair_of v }
+    {
+        v.into()
+    }
+}
+
 // How much of the sphere a frame covers. A flat one stands in the room as a screen.
-#[derive(Clone, Copy)]
+#[derive(Clone, Copy, Debug, PartialEq, Eq)]
 pub enum Projection {
     Equirect360,
     Equirect180,
@@ -79,17 +89,10 @@ pub enum Projection {
     Flat,
 }
 
-// The patch of the sphere that a projection is short for, if it is one.
-#[derive(Clone, Copy)]
-pub enum Patch {
-    Sphere(Bounds),
-    Nothing,
-}
+impl From<u32> for Projection {
+    ghost from_gives = { λ v projection. projection ≡ projection_of v };
 
-impl Projection {
-    pub fn from_raw(v: u32) -> Projection
-        ensures { result ≡ projection_of v }
-    {
+    fn from(v: u32) -> Projection {
         match v {
             1 => Projection::Equirect180,
             2 => Projection::Flat,
@@ -97,38 +100,41 @@ impl Projection {
             _ => Projection::Equirect360,
         }
     }
+}
+
+impl Projection {
+    pub fn from_raw(v: u32) -> Projection
+        ensures { result ≡ projection_of v }
+    {
+        v.into()
+    }
 
     // Whether the picture goes around the viewer.
     pub fn is_panoramic(self) -> bool
         ensures { result ≡ panoramic self }
     {
-        match self {
-            Projection::Equirect360 => true,
-            Projection::Equirect180 => true,
-            Projection::Cubemap => true,
-            Projection::Flat => false,
-        }
+        !matches!(self, Projection::Flat)
     }
 
-    pub fn bounds(self) -> Patch
+    // The patch of the sphere that it is short for, if it is one.
+    pub fn bounds(self) -> Option<Bounds>
         ensures { result ≡ patch_of self }
     {
         match self {
-            Projection::Equirect360 => Patch::Sphere(Bounds::FULL),
+            Projection::Equirect360 => Some(Bounds::FULL),
             // The front half: a quarter of the sphere left out on each side.
-            Projection::Equirect180 => Patch::Sphere(Bounds {
+            Projection::Equirect180 => Some(Bounds {
                 top: 0.0,
                 bottom: 0.0,
                 left: 0.25,
                 right: 0.25,
             }),
-            Projection::Cubemap => Patch::Nothing,
-            Projection::Flat => Patch::Nothing,
+            Projection::Cubemap | Projection::Flat => None,
         }
     }
 }
 
-#[derive(Clone, Copy)]
+#[derive(Clone, Copy, Debug, PartialEq, Eq)]
 pub enum Eye {
     Left,
     Right,
@@ -145,18 +151,14 @@ pub type ChannelMix = [f32; 3];
 pub fn uv_window(layout: StereoLayout, eye: Eye) -> UvWindow
     ensures { result ≡ window_of layout eye }
 {
-    match layout {
-        StereoLayout::Mono => [1.0, 0.0, 1.0, 0.0],
-        StereoLayout::OverUnder => match eye {
-            Eye::Left => [1.0, 0.0, 0.5, 0.5],
-            Eye::Right => [1.0, 0.0, 0.5, 0.0],
-        },
-        StereoLayout::SideBySide => match eye {
-            Eye::Left => [0.5, 0.0, 1.0, 0.0],
-            Eye::Right => [0.5, 0.5, 1.0, 0.0],
-        },
-        StereoLayout::Anaglyph => [1.0, 0.0, 1.0, 0.0],
-        StereoLayout::RowInterleaved => [1.0, 0.0, 1.0, 0.0],
+    match (layout, eye) {
+        (StereoLayout::OverUnder, Eye::Left) => [1.0, 0.0, 0.5, 0.5],
+        (StereoLayout::OverUnder, Eye::Right) => [1.0, 0.0, 0.5, 0.0],
+        (StereoLayout::SideBySide, Eye::Left) => [0.5, 0.0, 1.0, 0.0],
+        (StereoLayout::SideBySide, Eye::Right) => [0.5, 0.5, 1.0, 0.0],
+        (StereoLayout::Mono | StereoLayout::Anaglyph | StereoLayout::RowInterleaved, _) => {
+            [1.0, 0.0, 1.0, 0.0]
+        }
     }
 }
 
@@ -164,40 +166,21 @@ pub fn uv_window(layout: StereoLayout, eye: Eye) -> UvWindow
 pub fn anaglyph_mix(pair: AnaglyphPair, eye: Eye) -> ChannelMix
     ensures { result ≡ mix_of pair eye }
 {
-    match pair {
-        AnaglyphPair::RedCyan => match eye {
-            Eye::Left => [1.0, 0.0, 0.0],
-            Eye::Right => [0.0, 0.5, 0.5],
-        },
-        AnaglyphPair::GreenMagenta => match eye {
-            Eye::Left => [0.0, 1.0, 0.0],
-            Eye::Right => [0.5, 0.0, 0.5],
-        },
-        AnaglyphPair::YellowBlue => match eye {
-            Eye::Left => [0.5, 0.5, 0.0],
-            Eye::Right => [0.0, 0.0, 1.0],
-        },
+    match (pair, eye) {
+        (AnaglyphPair::RedCyan, Eye::Left) => [1.0, 0.0, 0.0],
+        (AnaglyphPair::RedCyan, Eye::Right) => [0.0, 0.5, 0.5],
+        (AnaglyphPair::GreenMagenta, Eye::Left) => [0.0, 1.0, 0.0],
+        (AnaglyphPair::GreenMagenta, Eye::Right) => [0.5, 0.0, 0.5],
+        (AnaglyphPair::YellowBlue, Eye::Left) => [0.5, 0.5, 0.0],
+        (AnaglyphPair::YellowBlue, Eye::Right) => [0.0, 0.0, 1.0],
     }
 }
 
-// A NaN, an infinity, or not above 0. A NaN is not below the infinity.
+// A NaN, an infinity, or not above 0.
 fn is_unusable(x: f32) -> bool
     ensures { result ≡ unusable x }
 {
-    let infinite: f32 = 1.0 / 0.0;
-    !(x < infinite) | (x <= 0.0)
-}
-
-fn clamp(x: f32, low: f32, high: f32) -> f32
-    ensures { result ≡ clamped x low high }
-{
-    if x < low {
-        return low;
-    }
-    if high < x {
-        return high;
-    }
-    x
+    !x.is_finite() || x <= 0.0
 }
 
 // The vertical field of view, in degrees, at a zoom factor.
@@ -207,7 +190,7 @@ pub fn fov_for_zoom(zoom: f32) -> f32
     if is_unusable(zoom) {
         return DEFAULT_FOV_DEG;
     }
-    clamp(DEFAULT_FOV_DEG / zoom, MIN_FOV_DEG, MAX_FOV_DEG)
+    (DEFAULT_FOV_DEG / zoom).clamp(MIN_FOV_DEG, MAX_FOV_DEG)
 }
 
 // The zoom factor of a vertical field of view in degrees.

@@ -7,15 +7,14 @@ ghost use Rattle.payload.specs.Lent.{in_items, answer_for, buffers_after, at_ent
 ghost use Rattle.payload.specs.Words.{word_bytes};
 
 use super::answers::Filled;
+use bits::FillError;
 
 fn put_words(out: &mut [u8], words: &[u32])
     requires { 4 * length words.now ≤ length out.old }
     ensures { out.new ≡ sets out.old 0 (word_bytes words.now) }
 {
-    let mut i = 0;
-    while i < words.len() {
-        bits::put_word(out, 4 * i, words[i]);
-        i += 1;
+    for (i, word) in words.iter().enumerate() {
+        bits::put_word(out, 4 * i, *word).unwrap();
     }
 }
 
@@ -28,8 +27,8 @@ pub(crate) fn fill_words(out: &mut [u8], words: &[u32]) -> Filled
 {
     let n = 4 * words.len();
     if out.len() < n {
-        return Filled::Needs(n);
+        return Err(FillError::Needs(n));
     }
     put_words(out, words);
-    Filled::Count(n)
+    Ok(n)
 }

@@ -5,7 +5,7 @@ ghost use Rattle.payload.specs.Float.{finite_word};
 ghost use Rattle.payload.specs.MeshRead.{read_word};
 ghost use Rattle.payload.specs.Internal.{word_says};
 
-use bits::{BitCursor, FieldRead};
+use bits::{BitCursor, Refusal};
 
 // The 32 bits from byte i on.
 pub(in crate::mesh) fn word(s: &[u8], i: usize) -> u32
@@ -22,27 +22,19 @@ pub(in crate::mesh) fn word_is_finite(word: u32) -> bool
     (word >> 23) % 256 != 255
 }
 
-// A word of a pool whose f32 is finite, or the number of a refusal.
-#[derive(Clone, Copy)]
-pub(in crate::mesh) enum PoolWord {
-    Finite(u32),
-    Declined(u8),
-}
-
 // The word of a pool that stands at byte i: 3 where it is not there, 17 where it is not finite.
-pub(in crate::mesh) fn pool_word(s: &[u8], i: usize) -> PoolWord
+pub(in crate::mesh) fn pool_word(s: &[u8], i: usize) -> Result<u32, Refusal>
     requires { (length s.now ≤ 67108864) × (i ≤ 67108864) }
     ensures { word_says (8 * i) result ≡ read_word s.now (8 * i) }
 {
     if s.len() < i + 4 {
-        return PoolWord::Declined(3);
+        return Err(Refusal::TooFewBytes);
     }
     let fetched = word(s, i);
     if word_is_finite(fetched) {
-        PoolWord::Finite(fetched)
-    } else {
-        PoolWord::Declined(17)
+        return Ok(fetched);
     }
+    Err(Refusal::NotFinite)
 }
 
 // The field of width bits from a bit on.
@@ -52,9 +44,8 @@ pub(in crate::mesh) fn one_field(s: &[u8], bit: usize, width: u32) -> u32
 {
     let here = BitCursor { bit };
     match here.read(s, width) {
-        FieldRead::Value(value, _) => value,
+        Ok((value, _)) => value,
         // never: it is there, and no wider than 32 bits
-        FieldRead::Short => 0,
-        FieldRead::TooWide => 0,
+        Err(_) => 0,
     }
 }

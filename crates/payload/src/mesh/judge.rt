@@ -6,77 +6,46 @@ ghost use Rattle.payload.specs.MeshWrite.{all_of, all_below, mesh_written};
 ghost use Rattle.payload.specs.InternalWriting.{row_fits, rows_all_fit, counts_fit, lengths_fit, size_of, judged_says};
 
 use super::fields::word_is_finite;
+use super::head::{run_bits, submeshes_at};
+use bits::Refusal;
 
-// The size of the tables' box, or that they are no mesh, or that a word of the pool is not finite.
-#[derive(Clone, Copy)]
-pub(in crate::mesh) enum Judged {
-    Size(usize),
-    NoMesh,
-    NotFinite,
-}
-
-// Every number is below limit. All of them are looked at, since a loop without a way out takes many at a time.
+// Every number is below limit. All of them are looked at, since a fold, which has no way out, takes many at a time.
 fn all_below(ns: &[u16], limit: u16) -> bool
     ensures { result ≡ all_below limit ns.now }
 {
-    let mut above = false;
-    let mut i = 0;
-    while i < ns.len() {
-        above = above | (limit <= ns[i]);
-        i += 1;
-    }
-    !above
+    ns.iter().fold(true, |all, n| all & (*n < limit))
 }
 
 // Every word is finite, found alike.
 fn all_finite(words: &[u32]) -> bool
     ensures { result ≡ all_of finite_word words.now }
 {
-    let mut other = false;
-    let mut i = 0;
-    while i < words.len() {
-        other = other | !word_is_finite(words[i]);
-        i += 1;
-    }
-    !other
+    words
+        .iter()
+        .fold(true, |all, word| all & word_is_finite(*word))
 }
 
 // A row of the submesh table is within the limits, and its points are no more than are left.
 fn row_fits(texture: u32, mode: u32, count: usize, left: usize) -> bool
     ensures { result ≡ row_fits texture mode count left }
 {
-    if 255 < texture {
-        return false;
-    }
-    if 255 < mode {
-        return false;
-    }
-    if count < 1 {
-        return false;
-    }
-    if 128_000 < count {
-        return false;
-    }
-    count <= left
+    (texture <= 255) & (mode <= 255) & (1 <= count) & (count <= 128_000) & (count <= left)
 }
 
 // The rows fit, and their counts add up to the points.
 fn rows_fit(rows: &[u32], points: usize) -> bool
     ensures { result ≡ rows_all_fit rows.now points }
 {
-    let n = rows.len();
+    if rows.len() % 3 != 0 {
+        return false;
+    }
     let mut left = points;
-    let mut i = 0;
-    while i < n {
-        if n - i < 3 {
-            return false;
-        }
-        let count = rows[i + 2] as usize;
-        if !row_fits(rows[i], rows[i + 1], count, left) {
+    for row in rows.chunks_exact(3) {
+        let count = row[2] as usize;
+        if !row_fits(row[0], row[1], count, left) {
             return false;
         }
         left -= count;
-        i += 3;
     }
     left == 0
 }
@@ -86,11 +55,8 @@ fn box_size(n: usize, v: usize, m: usize, k: usize, q: usize) -> usize
     requires { (n ≤ 10000) × (v ≤ 200000) × (m ≤ 32000) × (k ≤ 67108864) × (q ≤ 536870912) }
     ensures { result ≡ size_of n v m k q }
 {
-    let coordinate_width = bits::bit_width(n as u32) as usize;
-    let vertex_width = bits::bit_width(m as u32) as usize;
-    let end = 32 * n + 64 + v * coordinate_width;
-    let place = (end + 7) / 8 * 8;
-    8 + (place + 32 + 48 * k + q * vertex_width + 7) / 8
+    let place = submeshes_at(n, v);
+    8 + (place + 32 + 48 * k + run_bits(q, m) + 7) / 8
 }
 
 // The lengths of three tables are within the limits: n words, v coordinate numbers, k words of rows.
@@ -107,13 +73,13 @@ fn lengths_fit(k: usize, q: usize) -> bool
     (k <= 67_108_864) & (q <= 536_870_912)
 }
 
-// Judges four tables.
+// The size of four tables' box: 13 where they are no mesh, then 17 where a word of the pool is not finite.
 pub(in crate::mesh) fn judge(
     pool: &[u32],
     coordinates: &[u16],
     rows: &[u32],
     points: &[u16],
-) -> Judged
+) -> Result<usize, Refusal>
     ensures { judged_says result ≡ mapped length
         (mesh_written pool.now coordinates.now rows.now points.now) }
 {
@@ -122,26 +88,26 @@ pub(in crate::mesh) fn judge(
     let k = rows.len();
     let q = points.len();
     if !counts_fit(n, v, k) {
-        return Judged::NoMesh;
+        return Err(Refusal::NotAMesh);
     }
     if !rows_fit(rows, q) {
-        return Judged::NoMesh;
+        return Err(Refusal::NotAMesh);
     }
     if !lengths_fit(k, q) {
-        return Judged::NoMesh;
+        return Err(Refusal::NotAMesh);
     }
     let size = box_size(n, v, v / 5, k / 3, q);
     if 67_108_864 < size {
-        return Judged::NoMesh;
+        return Err(Refusal::NotAMesh);
     }
     if !all_below(coordinates, n as u16) {
-        return Judged::NoMesh;
+        return Err(Refusal::NotAMesh);
     }
     if !all_below(points, (v / 5) as u16) {
-        return Judged::NoMesh;
+        return Err(Refusal::NotAMesh);
     }
     if !all_finite(pool) {
-        return Judged::NotFinite;
+        return Err(Refusal::NotFinite);
     }
-    Judged::Size(size)
+    Ok(size)
 }

@@ -3,6 +3,7 @@
 ghost use Rattle.std.specs.Prelude.{◌≡◌, ◌+◌, ◌*◌, ◌<◌, ◌≤◌, length};
 ghost use Rattle.bits.specs.Verdict.{mapped};
 ghost use Rattle.bits.specs.Verdict.{limited};
+ghost use Rattle.bits.specs.Says.{number_of};
 ghost use Rattle.payload.specs.MeshRead.{many, read_word, read_submesh, read_submeshes, after_pool_count, read_mesh};
 ghost use Rattle.payload.specs.MeshRead.{read_meshes};
 ghost use Rattle.payload.specs.Internal.{after_counts, PoolThere, SubmeshPlace, points_end, submeshes_size};
@@ -12,8 +13,8 @@ ghost use Rattle.payload.specs.Meshes.{list_size, measured_says};
 ghost use Rattle.payload.specs.Tables.{table_lengths, body_read, table_lengths_says};
 
 use super::MESH;
-use super::fields::{PoolWord, one_field, pool_word, word};
-use bits::{BoxHeader, ByteCursor, Run, RunCheck};
+use super::fields::{one_field, pool_word, word};
+use bits::{BoxHeader, ByteCursor, Refusal, Run};
 
 // How much there is of a mesh list: its meshes, submeshes and points, and the lengths of its drawing's three lists.
 #[derive(Clone, Copy)]
@@ -26,101 +27,97 @@ pub struct MeshListSize {
     pub records: usize,
 }
 
-// The size of a mesh list, or the number of a refusal.
+// A submesh's point count, and the bit place after it.
 #[derive(Clone, Copy)]
-pub enum Measured {
-    Size(MeshListSize),
-    Declined(u8),
+struct SubmeshEnd {
+    points: u32,
+    bit: usize,
 }
 
-// A submesh's point count and the bit place after it, or the number of a refusal.
-#[derive(Clone, Copy)]
-enum SubmeshEnd {
-    At(u32, usize),
-    Declined(u8),
-}
-
-fn check_submesh(s: &[u8], p: usize, w: usize, m: u32) -> SubmeshEnd
+fn check_submesh(s: &[u8], p: usize, w: usize, m: u32) -> Result<SubmeshEnd, Refusal>
     requires { SubmeshPlace s.now w m p }
     ensures { submesh_says result ≡ mapped points_end (read_submesh s.now w m p) }
 {
     let end = s.len() * 8;
     if end - p < 48 {
-        return SubmeshEnd::Declined(3);
+        return Err(Refusal::TooFewBytes);
     }
     let count = one_field(s, p + 16, 32);
     if count < 1 {
-        return SubmeshEnd::Declined(7);
+        return Err(Refusal::MeshCount);
     }
     if 128_000 < count {
-        return SubmeshEnd::Declined(7);
+        return Err(Refusal::MeshCount);
     }
     let run = Run {
         bit: p + 48,
         limit: m as u16,
         count,
     };
-    match bits::check_run(s, run) {
-        RunCheck::Good => SubmeshEnd::At(count, p + 48 + (count as usize) * w),
-        RunCheck::Declined(k) => SubmeshEnd::Declined(k),
-    }
+    bits::check_run(s, run)?;
+    Ok(SubmeshEnd {
+        points: count,
+        bit: p + 48 + (count as usize) * w,
+    })
 }
 
-// How many submeshes there are, and how many points they have in all, or the number of a refusal.
+// How many submeshes there are, and how many points they have in all.
 #[derive(Clone, Copy)]
-enum SubmeshesSize {
-    Size(u32, usize),
-    Declined(u8),
+struct SubmeshesSize {
+    submeshes: u32,
+    points: usize,
 }
 
 // The submeshes from bit p on, of which there are count.
-fn check_submeshes(s: &[u8], p: usize, w: usize, m: u32, count: u32) -> SubmeshesSize
+fn check_submeshes(
+    s: &[u8],
+    p: usize,
+    w: usize,
+    m: u32,
+    count: u32,
+) -> Result<SubmeshesSize, Refusal>
     requires { SubmeshPlace s.now w m p }
     ensures { submeshes_says result ≡ mapped submeshes_size (many (read_submesh s.now w m) count p) }
 {
     let mut bit = p;
     let mut points: usize = 0;
-    let mut left = count;
-    while 0 < left {
-        match check_submesh(s, bit, w, m) {
-            SubmeshEnd::Declined(k) => {
-                return SubmeshesSize::Declined(k);
-            }
-            SubmeshEnd::At(n, q) => {
-                points += n as usize;
-                bit = q;
-            }
-        }
-        left -= 1;
+    for i in 0..count {
+        let submesh = check_submesh(s, bit, w, m)?;
+        points += submesh.points as usize;
+        bit = submesh.bit;
     }
-    SubmeshesSize::Size(count, points)
+    Ok(SubmeshesSize {
+        submeshes: count,
+        points,
+    })
 }
 
 // The submesh count at bit p, and the submeshes.
-fn check_submesh_list(s: &[u8], p: usize, w: usize, m: u32) -> SubmeshesSize
+fn check_submesh_list(s: &[u8], p: usize, w: usize, m: u32) -> Result<SubmeshesSize, Refusal>
     requires { SubmeshPlace s.now w m p }
     ensures { submeshes_says result ≡ mapped submeshes_size (read_submeshes s.now w m p) }
 {
     let end = s.len() * 8;
     if end - p < 32 {
-        return SubmeshesSize::Declined(3);
+        return Err(Refusal::TooFewBytes);
     }
     let count = one_field(s, p, 32);
     if count < 1 {
-        return SubmeshesSize::Declined(7);
+        return Err(Refusal::MeshCount);
     }
     check_submeshes(s, p + 32, w, m, count)
 }
 
-// The vertices, submeshes and points of a mesh body, or the number of a refusal.
+// The vertices, submeshes and points of a mesh body.
 #[derive(Clone, Copy)]
-enum BodySize {
-    Size(u32, u32, usize),
-    Declined(u8),
+struct BodySize {
+    vertices: u32,
+    submeshes: u32,
+    points: usize,
 }
 
 // From the vertices on, of which there are m, over n coordinates.
-fn check_from_vertices(s: &[u8], n: u32, m: u32) -> BodySize
+fn check_from_vertices(s: &[u8], n: u32, m: u32) -> Result<BodySize, Refusal>
     requires { (length s.now ≤ 67108864) × (1 ≤ n) × (n ≤ 10000) × (1 ≤ m) × (m ≤ 32000)
         × (32 * n + 64 ≤ 8 * length s.now) }
     ensures { body_says result ≡ mapped body_size (after_counts s.now n m) }
@@ -131,84 +128,63 @@ fn check_from_vertices(s: &[u8], n: u32, m: u32) -> BodySize
         limit: n as u16,
         count: m,
     };
-    match bits::check_fives(s, run) {
-        RunCheck::Declined(k) => BodySize::Declined(k),
-        RunCheck::Good => {
-            let end = start + 5 * (m as usize) * (bits::bit_width(n) as usize);
-            let v = bits::bit_width(m) as usize;
-            match check_submesh_list(s, (end + 7) / 8 * 8, v, m) {
-                SubmeshesSize::Declined(k) => BodySize::Declined(k),
-                SubmeshesSize::Size(count, points) => BodySize::Size(m, count, points),
-            }
-        }
-    }
-}
-
-// Whether the words of a pool are good, or the number of a refusal.
-#[derive(Clone, Copy)]
-enum PoolCheck {
-    Good,
-    Declined(u8),
+    bits::check_fives(s, run)?;
+    let end = start + 5 * (m as usize) * (bits::bit_width(n) as usize);
+    let v = bits::bit_width(m) as usize;
+    let size = check_submesh_list(s, (end + 7) / 8 * 8, v, m)?;
+    Ok(BodySize {
+        vertices: m,
+        submeshes: size.submeshes,
+        points: size.points,
+    })
 }
 
 // The n words of a pool, one after the other: 3 where one is not there, 17 where one is not finite.
-fn check_pool(s: &[u8], n: u32) -> PoolCheck
+fn check_pool(s: &[u8], n: u32) -> Result<(), Refusal>
     requires { (length s.now ≤ 67108864) × (4 ≤ length s.now) × (n ≤ 10000) }
     ensures { pool_says result ≡ mapped nothing (many (read_word s.now) n 32) }
 {
-    let mut at: usize = 4;
-    let mut left = n;
-    while 0 < left {
-        match pool_word(s, at) {
-            PoolWord::Declined(k) => {
-                return PoolCheck::Declined(k);
-            }
-            PoolWord::Finite(_) => {
-                at += 4;
-                left -= 1;
-            }
-        }
+    for i in 0..n as usize {
+        pool_word(s, 4 * i + 4)?;
     }
-    PoolCheck::Good
+    Ok(())
 }
 
 // From the vertex count on, after a pool of n good words.
-fn check_after_pool(s: &[u8], n: u32) -> BodySize
+fn check_after_pool(s: &[u8], n: u32) -> Result<BodySize, Refusal>
     requires { (length s.now ≤ 67108864) × (1 ≤ n) × (n ≤ 10000) × PoolThere s.now n }
     ensures { body_says result ≡ mapped body_size (after_pool_count s.now n) }
 {
     if s.len() * 8 < 32 * (n as usize) + 64 {
-        return BodySize::Declined(3);
+        return Err(Refusal::TooFewBytes);
     }
     let m = word(s, 4 * (n as usize) + 4);
     if m < 1 {
-        return BodySize::Declined(7);
+        return Err(Refusal::MeshCount);
     }
     if 32_000 < m {
-        return BodySize::Declined(7);
+        return Err(Refusal::MeshCount);
     }
     check_from_vertices(s, n, m)
 }
 
 // A mesh body.
-fn check_mesh(s: &[u8]) -> BodySize
+fn check_mesh(s: &[u8]) -> Result<BodySize, Refusal>
     requires { length s.now ≤ 67108864 }
     ensures { body_says result ≡ mapped body_size (read_mesh s.now) }
 {
     if s.len() < 4 {
-        return BodySize::Declined(3);
+        return Err(Refusal::TooFewBytes);
     }
     let n = word(s, 0);
     if n < 1 {
-        return BodySize::Declined(7);
+        return Err(Refusal::MeshCount);
     }
     if 10_000 < n {
-        return BodySize::Declined(7);
+        return Err(Refusal::MeshCount);
     }
-    match check_pool(s, n) {
-        PoolCheck::Declined(k) => BodySize::Declined(k),
-        PoolCheck::Good => check_after_pool(s, n),
-    }
+    check_pool(s, n)?;
+    check_after_pool(s, n)
 }
 
 // What was counted of a list so far.
@@ -220,57 +196,49 @@ struct Totals {
     points: usize,
 }
 
-#[derive(Clone, Copy)]
-enum Totalled {
-    Totals(Totals),
-    Declined(u8),
-}
-
 // The totals with those of a mesh body added.
-fn add_body(s: &[u8], t: Totals, at: usize) -> Totalled
+fn add_body(s: &[u8], t: Totals, at: usize) -> Result<Totals, Refusal>
     requires { (length s.now ≤ 67108864) × Room t at × (at + length s.now ≤ 67108864) }
     ensures { totals_says result ≡ mapped (with_body t) (read_mesh s.now) }
 {
-    match check_mesh(s) {
-        BodySize::Declined(k) => Totalled::Declined(k),
-        BodySize::Size(m, count, points) => Totalled::Totals(Totals {
-            meshes: t.meshes + 1,
-            coordinates: t.coordinates + 5 * (m as usize),
-            submeshes: t.submeshes + count as usize,
-            points: t.points + points,
-        }),
-    }
+    let size = check_mesh(s)?;
+    Ok(Totals {
+        meshes: t.meshes + 1,
+        coordinates: t.coordinates + 5 * (size.vertices as usize),
+        submeshes: t.submeshes + size.submeshes as usize,
+        points: t.points + size.points,
+    })
 }
 
 // The totals with those of a box: a mesh box's body is counted, but a third one is refused, and another box is skipped.
-fn add_box(s: &[u8], fourcc: u32, body: usize, end: usize, t: Totals) -> Totalled
+fn add_box(s: &[u8], fourcc: u32, body: usize, end: usize, t: Totals) -> Result<Totals, Refusal>
     requires { (length s.now ≤ 67108864) × (body ≤ end) × (end ≤ length s.now) × Room t body }
     ensures { totals_says result ≡ box_totals s.now fourcc body end t }
 {
     if fourcc != MESH {
-        return Totalled::Totals(t);
+        return Ok(t);
     }
     if 2 <= t.meshes {
-        return Totalled::Declined(18);
+        return Err(Refusal::ThirdMesh);
     }
     add_body(&s[body..end], t, body)
 }
 
 // The refusal of a box by its long size: a third mesh box is refused before that, by its type.
-fn refused_box(fourcc: u32, number: u8, t: Totals) -> u8
-    ensures { result ≡ box_refusal fourcc number t }
+fn refused_box(fourcc: u32, refusal: Refusal, t: Totals) -> Refusal
+    ensures { number_of result ≡ box_refusal fourcc (number_of refusal) t }
 {
     if fourcc != MESH {
-        return number;
+        return refusal;
     }
     if t.meshes < 2 {
-        return number;
+        return refusal;
     }
-    18
+    Refusal::ThirdMesh
 }
 
 // The totals of a list of boxes.
-fn measure_list(s: &[u8]) -> Totalled
+fn measure_list(s: &[u8]) -> Result<Totals, Refusal>
     requires { length s.now ≤ 67108864 }
     ensures { totals_says result ≡ mapped (totals_of no_totals) (read_meshes s.now) }
 {
@@ -281,51 +249,43 @@ fn measure_list(s: &[u8]) -> Totalled
         submeshes: 0,
         points: 0,
     };
+    // no index is counted here: a turn goes on where the box ends, and each end of the list answers otherwise
     loop {
         match bits::box_header(s, ByteCursor { at }) {
             BoxHeader::ListEnd => {
-                return Totalled::Totals(t);
+                return Ok(t);
             }
             BoxHeader::BadSize => {
-                return Totalled::Declined(6);
+                return Err(Refusal::BoxSize);
             }
             BoxHeader::Header { fourcc, body, end } => {
-                match add_box(s, fourcc, body, end, t) {
-                    Totalled::Declined(k) => {
-                        return Totalled::Declined(k);
-                    }
-                    Totalled::Totals(next) => {
-                        t = next;
-                        at = end;
-                    }
-                }
+                t = add_box(s, fourcc, body, end, t)?;
+                at = end;
             }
-            BoxHeader::Refused { fourcc, number } => {
-                return Totalled::Declined(refused_box(fourcc, number, t));
+            BoxHeader::Refused { fourcc, refusal } => {
+                return Err(refused_box(fourcc, refusal, t));
             }
         }
     }
 }
 
 // Measures a mesh list: 2, then 3, 6, 7, 8, 17 and 18 in payload order.
-pub fn measure_meshes(payload: &[u8]) -> Measured
+pub fn measure_meshes(payload: &[u8]) -> Result<MeshListSize, Refusal>
     ensures { measured_says result
         ≡ limited payload.now (mapped list_size (read_meshes payload.now)) }
 {
     if 67_108_864 < payload.len() {
-        return Measured::Declined(2);
+        return Err(Refusal::PayloadTooLong);
     }
-    match measure_list(payload) {
-        Totalled::Declined(k) => Measured::Declined(k),
-        Totalled::Totals(t) => Measured::Size(MeshListSize {
-            meshes: t.meshes,
-            submeshes: t.submeshes,
-            points: t.points,
-            numbers: t.coordinates,
-            floats: 5 * t.points,
-            records: 5 * t.submeshes,
-        }),
-    }
+    let t = measure_list(payload)?;
+    Ok(MeshListSize {
+        meshes: t.meshes,
+        submeshes: t.submeshes,
+        points: t.points,
+        numbers: t.coordinates,
+        floats: 5 * t.points,
+        records: 5 * t.submeshes,
+    })
 }
 
 // The lengths of a mesh's four tables.
@@ -337,27 +297,18 @@ pub struct TableLengths {
     pub points: usize,
 }
 
-// The lengths of a mesh's tables, or the number of a refusal.
-#[derive(Clone, Copy)]
-pub enum MeshMeasured {
-    Lengths(TableLengths),
-    Declined(u8),
-}
-
 // Measures a mesh body: 2, then 3, 7, 8 and 17 in field order.
-pub fn measure_mesh(body: &[u8]) -> MeshMeasured
+pub fn measure_mesh(body: &[u8]) -> Result<TableLengths, Refusal>
     ensures { table_lengths_says result ≡ mapped table_lengths (body_read body.now) }
 {
     if 67_108_864 < body.len() {
-        return MeshMeasured::Declined(2);
+        return Err(Refusal::PayloadTooLong);
     }
-    match check_mesh(body) {
-        BodySize::Declined(k) => MeshMeasured::Declined(k),
-        BodySize::Size(m, count, points) => MeshMeasured::Lengths(TableLengths {
-            pool: word(body, 0) as usize,
-            coordinates: 5 * (m as usize),
-            submeshes: 3 * (count as usize),
-            points,
-        }),
-    }
+    let size = check_mesh(body)?;
+    Ok(TableLengths {
+        pool: word(body, 0) as usize,
+        coordinates: 5 * (size.vertices as usize),
+        submeshes: 3 * (size.submeshes as usize),
+        points: size.points,
+    })
 }

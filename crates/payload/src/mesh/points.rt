@@ -4,11 +4,13 @@ ghost use Rattle.std.specs.Prelude.{◌≡◌, ◌+◌, ◌*◌, ◌<◌, ◌≤
 ghost use Rattle.std.proofs.lemmas.List.Edits.{sets};
 ghost use Rattle.bits.specs.Run.{last_of};
 ghost use Rattle.payload.specs.MeshDrawing.{point_words, run_words};
-ghost use Rattle.payload.specs.Internal.{PointsThere, points_of, PointsPooled, PointsExpanded, PointsBelow};
-ghost use Rattle.payload.specs.Internal.{SomeOf, SomeRun, some_numbers};
+ghost use Rattle.payload.specs.Internal.{PointsThere, points_of, PointsExpanded, PointsBelow};
+ghost use Rattle.payload.specs.Internal.{SomeRun, some_numbers};
+ghost use Rattle.payload.specs.InternalPoints.{vertex_words, VerticesExpanded};
 ghost use Rattle.payload.specs.Internal.{pool_word, word_at, word_in, words_from, Pooled, ExpandedFrom};
 
 use super::fields::word;
+use super::vertices::Vertices;
 use super::{CoordinateNumber, VertexNumber};
 use bits::Run;
 
@@ -29,39 +31,8 @@ pub(in crate::mesh) fn word_at(s: &[u8], numbers: &[u16], k: usize) -> u32
     pool_word(s, CoordinateNumber(numbers[k]))
 }
 
-// Stores the five words of a vertex. The vertices' coordinate numbers stand in numbers from base on.
-fn draw_point(s: &[u8], numbers: &[u16], base: usize, v: VertexNumber, words: &mut [u32], at: usize)
-    requires { (length s.now ≤ 67108864) × (at + 5 ≤ length words.old)
-        × Pooled s.now numbers.now (base + 5 * v.0) 5 }
-    ensures { words.new ≡ sets words.old at (point_words (word_at s.now numbers.now) (base + 5 * v.0)) }
-{
-    let k = base + 5 * (v.0 as usize);
-    words[at] = word_at(s, numbers, k);
-    words[at + 1] = word_at(s, numbers, k + 1);
-    words[at + 2] = word_at(s, numbers, k + 2);
-    words[at + 3] = word_at(s, numbers, k + 3);
-    words[at + 4] = word_at(s, numbers, k + 4);
-}
-
-// Stores the words of some vertices, point by point.
-fn draw_points(s: &[u8], points: &[u16], numbers: &[u16], base: usize, words: &mut [u32], at: usize)
-    requires s_len_bound { length s.now ≤ 67108864 }
-    requires points_pooled { PointsPooled s.now numbers.now base points.now }
-    requires points_in_bounds { at + 5 * length points.now ≤ length words.old }
-    ensures floats { words.new
-        ≡ sets words.old at
-        (run_words (word_at s.now numbers.now) base points.now) }
-{
-    let mut i = 0;
-    let mut to = at;
-    while i < points.len() {
-        draw_point(s, numbers, base, VertexNumber(points[i]), words, to);
-        to += 5;
-        i += 1;
-    }
-}
-
-// Copies the five words of a vertex to a place before them.
+// Copies the five words of a vertex to a place before them. All are read first, so that they are copied together;
+// `copy_within` copies them one by one, which is slower.
 fn copy_point(words: &mut [u32], from: usize, at: usize)
     requires { (at + 5 ≤ from) × (from + 5 ≤ length words.old) }
     ensures { words.new
@@ -86,92 +57,81 @@ fn copy_points(points: &[u16], words: &mut [u32], expanded: usize, at: usize)
     ensures floats { words.new
         ≡ sets words.old at (run_words (word_in words.old) expanded points.now) }
 {
-    let mut i = 0;
     let mut to = at;
-    while i < points.len() {
-        let vertex = VertexNumber(points[i]);
-        copy_point(words, expanded + 5 * (vertex.0 as usize), to);
+    for vertex in points {
+        copy_point(words, expanded + 5 * (*vertex as usize), to);
         to += 5;
-        i += 1;
     }
 }
 
-// Stores the words of some vertices: by copies where they are expanded behind all that is stored, and else from the
-// pool.
-fn put_points(
-    s: &[u8],
-    points: &[u16],
-    numbers: &[u16],
-    base: usize,
-    words: &mut [u32],
-    at: usize,
-    expanded: usize,
-    m: u16,
-)
-    requires s_len_bound { length s.now ≤ 67108864 }
-    requires points_below { PointsBelow m points.now }
-    requires pooled { Pooled s.now numbers.now base (5 * m) }
-    requires points_in_bounds { (at + 5 * length points.now ≤ length words.old) × (1 ≤ length points.now) }
-    requires expanded_from { ExpandedFrom at s.now numbers.now base (5 * m) words.old expanded }
-    ensures floats { words.new
-        ≡ sets words.old at
-        (run_words (word_at s.now numbers.now) base points.now) }
-{
-    if expanded < at + 5 * points.len() {
-        draw_points(s, points, numbers, base, words, at);
-        return;
+impl<'a> Vertices<'a> {
+    // Stores the five words of a vertex. Each is stored before the next is read: to read all first is slower.
+    fn draw_point(&self, v: VertexNumber, words: &mut [u32], at: usize)
+        requires { (v.0 < self.now.count) × (at + 5 ≤ length words.old) }
+        ensures { words.new ≡ sets words.old at
+            (point_words (word_at self.now.s.now self.now.numbers.now) (self.now.base + 5 * v.0)) }
+    {
+        let k = self.base + 5 * (v.0 as usize);
+        words[at] = word_at(self.s, self.numbers, k);
+        words[at + 1] = word_at(self.s, self.numbers, k + 1);
+        words[at + 2] = word_at(self.s, self.numbers, k + 2);
+        words[at + 3] = word_at(self.s, self.numbers, k + 3);
+        words[at + 4] = word_at(self.s, self.numbers, k + 4);
     }
-    copy_points(points, words, expanded, at);
-}
 
-// How many points of a run are drawn at once, of those that are left.
-fn some_of(left: usize) -> usize
-    ensures { SomeOf left result }
-{
-    if left < 64 {
-        return left;
+    // Stores the words of some vertices, point by point.
+    fn draw_points(&self, points: &[u16], words: &mut [u32], at: usize)
+        requires points_below { PointsBelow self.now.count points.now }
+        requires points_in_bounds { at + 5 * length points.now ≤ length words.old }
+        ensures floats { words.new ≡ sets words.old at (vertex_words self.now points.now) }
+    {
+        let mut to = at;
+        for vertex in points {
+            self.draw_point(VertexNumber(*vertex), words, to);
+            to += 5;
+        }
     }
-    64
-}
 
-// Stores the words of the next points of a run, and returns the last one's vertex. Their numbers are worked out first,
-// so that the reads of their words do not wait for each other.
-fn draw_some(
-    s: &[u8],
-    run: Run,
-    from: VertexNumber,
-    numbers: &[u16],
-    base: usize,
-    words: &mut [u32],
-    at: usize,
-    expanded: usize,
-) -> VertexNumber
-    requires some_run { SomeRun s.now run }
-    requires points_below { PointsBelow run.limit (some_numbers s.now run from.0) }
-    requires pooled { Pooled s.now numbers.now base (5 * run.limit) }
-    requires count_in_bounds { at + 5 * run.count ≤ length words.old }
-    requires expanded_from { ExpandedFrom at s.now numbers.now base (5 * run.limit) words.old expanded }
-    ensures vertex { result.0 ≡ last_of from.0 (some_numbers s.now run from.0) }
-    ensures floats { words.new
-        ≡ sets words.old at
-        (run_words (word_at s.now numbers.now) base (some_numbers s.now run
-        from.0)) }
-{
-    let n = run.count as usize;
-    let width = bits::bit_width(run.limit as u32);
-    let mut points = [0u16; 64];
-    bits::fill_run(s, run.bit, width, from.0, &mut points[..n]);
-    put_points(
-        s,
-        &points[..n],
-        numbers,
-        base,
-        words,
-        at,
-        expanded,
-        run.limit,
-    );
-    VertexNumber(points[n - 1])
+    // Stores the words of some vertices: by copies where they are expanded behind all that is stored, and else from the
+    // pool.
+    fn put_points(&self, points: &[u16], words: &mut [u32], at: usize, expanded: usize)
+        requires points_below { PointsBelow self.now.count points.now }
+        requires points_in_bounds { (at + 5 * length points.now ≤ length words.old) × (1 ≤ length points.now) }
+        requires expanded_from { VerticesExpanded at self.now words.old expanded }
+        ensures floats { words.new ≡ sets words.old at (vertex_words self.now points.now) }
+    {
+        if expanded < at + 5 * points.len() {
+            self.draw_points(points, words, at);
+            return;
+        }
+        copy_points(points, words, expanded, at);
+    }
+
+    // Stores the words of the next points of a run, and returns the last one's vertex. Their numbers are worked out
+    // first, so that the reads of their words do not wait for each other.
+    fn draw_some(
+        &self,
+        run: Run,
+        from: VertexNumber,
+        words: &mut [u32],
+        at: usize,
+        expanded: usize,
+    ) -> VertexNumber
+        requires some_run { SomeRun self.now.s.now run }
+        requires points_below { PointsBelow self.now.count (some_numbers self.now.s.now run from.0) }
+        requires count_in_bounds { at + 5 * run.count ≤ length words.old }
+        requires expanded_from { VerticesExpanded at self.now words.old expanded }
+        ensures vertex { result.0 ≡ last_of from.0 (some_numbers self.now.s.now run from.0) }
+        ensures floats { words.new
+            ≡ sets words.old at (vertex_words self.now (some_numbers self.now.s.now run from.0)) }
+    {
+        let n = run.count as usize;
+        let width = bits::bit_width(run.limit as u32);
+        let mut points = [0u16; 64];
+        bits::fill_run(self.s, run.bit, width, from.0, &mut points[..n]);
+        self.put_points(&points[..n], words, at, expanded);
+        VertexNumber(points[n - 1])
+    }
 }
 
 // Stores the words of a run of points that is known to be read whole. The vertices' coordinate numbers stand in numbers
@@ -194,29 +154,27 @@ pub(in crate::mesh) fn draw_run(
         (run_words (word_at s.now numbers.now) base (points_of s.now run)) }
 {
     let limit = run.limit;
+    let vertices = Vertices {
+        s,
+        numbers,
+        base,
+        count: limit,
+    };
     let step = bits::bit_width(limit as u32) as usize;
     let mut bit = run.bit;
-    let mut last: u16 = 0;
+    let mut last = VertexNumber(0);
     let mut left = run.count as usize;
     let mut to = at;
+    // no index is counted here: a turn takes what is drawn at once off what is left, and its bits and words with it
     while 0 < left {
-        let n = some_of(left);
+        // as many as are drawn at once, of those that are left
+        let n = left.min(64);
         let some = Run {
             bit,
             limit,
             count: n as u32,
         };
-        last = draw_some(
-            s,
-            some,
-            VertexNumber(last),
-            numbers,
-            base,
-            words,
-            to,
-            expanded,
-        )
-        .0;
+        last = vertices.draw_some(some, last, words, to, expanded);
         to += 5 * n;
         bit += n * step;
         left -= n;

@@ -4,33 +4,31 @@
 ghost use Rattle.std.specs.Prelude.{◌≡◌, ◌+◌, ◌*◌, ◌≤◌, [], ◌∷◌, length};
 ghost use Rattle.std.proofs.lemmas.List.Edits.{sets};
 ghost use Rattle.payload.specs.MeshRead.{read_mesh};
-ghost use Rattle.payload.specs.Internal.{WasRead, read_words, PointsThere, points_of, SubmeshesThere, submeshes_of};
+ghost use Rattle.payload.specs.Internal.{WasRead, read_words, PointsThere, points_of};
 ghost use Rattle.payload.specs.Internal.{mesh_read};
+ghost use Rattle.payload.specs.InternalWalk.{submeshes_in};
 ghost use Rattle.payload.specs.Tables.{submesh_rows, all_points, pool_table, coordinate_table, submesh_table};
 ghost use Rattle.payload.specs.Tables.{point_table, tables_plan, tables_says};
 ghost use Rattle.payload.specs.Lent.{answer_for, buffers_after, at_entry};
 
 use super::fields::word;
 use super::head::mesh_head;
-use super::measure::{MeshMeasured, TableLengths, measure_mesh};
-use super::submeshes::{Submeshes, next_submesh};
+use super::measure::{TableLengths, measure_mesh};
+use super::submeshes::SubmeshWalk;
 use super::vertices::fill_vertices;
-use bits::Run;
+use bits::{FillError, Run};
 
 // Stores the n pool words.
 fn fill_pool(s: &[u8], n: u16, out: &mut [u32])
     requires { (length s.now ≤ 67108864) × (32 * n + 32 ≤ 8 * length s.now) × (n ≤ length out.old) }
     ensures { out.new ≡ sets out.old 0 (read_words s.now 32 n) }
 {
-    let end = n as usize;
-    let mut i: usize = 0;
-    while i < end {
+    for i in 0..n as usize {
         out[i] = word(s, 4 * i + 4);
-        i += 1;
     }
 }
 
-// Stores a submesh's three words.
+// Stores a submesh's three words: a store for each, as in `put_record`.
 fn put_row(out: &mut [u32], at: usize, texture: u32, mode: u32, points: u32)
     requires { at + 3 ≤ length out.old }
     ensures { out.new ≡ sets out.old at (texture ∷ mode ∷ points ∷ []) }
@@ -41,19 +39,15 @@ fn put_row(out: &mut [u32], at: usize, texture: u32, mode: u32, points: u32)
 }
 
 // Stores the rows of some submeshes.
-fn fill_rows(s: &[u8], all: Submeshes, out: &mut [u32])
-    requires submeshes_there { SubmeshesThere s.now all }
-    requires left_in_bounds { 3 * all.left ≤ length out.old }
+fn fill_rows(submeshes: SubmeshWalk<'_>, out: &mut [u32])
+    requires left_in_bounds { 3 * submeshes.rest.left ≤ length out.old }
     ensures rows { out.new
-        ≡ sets out.old 0 (submesh_rows (submeshes_of s.now all)) }
+        ≡ sets out.old 0 (submesh_rows (submeshes_in submeshes.entry)) }
 {
-    let mut left = all;
     let mut at: usize = 0;
-    while 0 < left.left {
-        let next = next_submesh(s, left);
-        put_row(out, at, next.texture, next.mode, next.run.count);
+    for submesh in submeshes {
+        put_row(out, at, submesh.texture, submesh.mode, submesh.run.count);
         at += 3;
-        left = next.rest;
     }
 }
 
@@ -69,19 +63,16 @@ fn fill_run(s: &[u8], run: Run, out: &mut [u16], at: usize)
 }
 
 // Stores the vertex numbers of the points of some submeshes.
-fn fill_points(s: &[u8], all: Submeshes, out: &mut [u16])
-    requires submeshes_there { SubmeshesThere s.now all }
-    requires all_in_bounds { length (all_points (submeshes_of s.now all)) ≤ length out.old }
+fn fill_points(submeshes: SubmeshWalk<'_>, out: &mut [u16])
+    requires all_in_bounds { length (all_points (submeshes_in submeshes)) ≤ length out.old }
     ensures points { out.new
-        ≡ sets out.old 0 (all_points (submeshes_of s.now all)) }
+        ≡ sets out.old 0 (all_points (submeshes_in submeshes.entry)) }
 {
-    let mut left = all;
+    let s = submeshes.s;
     let mut at: usize = 0;
-    while 0 < left.left {
-        let next = next_submesh(s, left);
-        fill_run(s, next.run, out, at);
-        at += next.run.count as usize;
-        left = next.rest;
+    for submesh in submeshes {
+        fill_run(s, submesh.run, out, at);
+        at += submesh.run.count as usize;
     }
 }
 
@@ -109,46 +100,37 @@ fn fill_tables(
     let h = mesh_head(s);
     fill_pool(s, h.vertices.limit, pool);
     fill_vertices(s, h.vertices, coordinates, 0);
-    fill_rows(s, h.submeshes, submeshes);
-    fill_points(s, h.submeshes, points);
+    let walk = SubmeshWalk {
+        s,
+        rest: h.submeshes,
+    };
+    fill_rows(walk, submeshes);
+    fill_points(walk, points);
 }
 
-// What reading a mesh body answers: the used lengths of the four tables, or the lengths that they need, or the number
-// of a refusal.
-#[derive(Clone, Copy)]
-pub enum TablesAnswer {
-    Tables(TableLengths),
-    Needs(TableLengths),
-    Declined(u8),
-}
-
-// Reads a mesh body into tables: 2, then 3, 7, 8 and 17 in field order, then 12. Unless it answers `Tables`, the
-// buffers stay as they were.
+// Reads a mesh body into tables, and answers how much of each is used: 2, then 3, 7, 8 and 17 in field order, then 12.
+// Unless it answers `Ok`, the buffers stay as they were.
 pub fn parse_mesh(
     body: &[u8],
     pool: &mut [u32],
     coordinates: &mut [u16],
     submeshes: &mut [u32],
     points: &mut [u16],
-) -> TablesAnswer
+) -> Result<TableLengths, FillError<TableLengths>>
     ensures answer { tables_says result
         ≡ answer_for (tables_plan body.now) (at_entry (pool ∷ coordinates ∷ submeshes ∷ points ∷ [])) }
     ensures buffers { pool.new ∷ coordinates.new ∷ submeshes.new ∷ points.new
         ∷ []
         ≡ buffers_after (tables_plan body.now) (at_entry (pool ∷ coordinates ∷ submeshes ∷ points ∷ [])) }
 {
-    match measure_mesh(body) {
-        MeshMeasured::Declined(k) => TablesAnswer::Declined(k),
-        MeshMeasured::Lengths(n) => {
-            if (n.pool <= pool.len())
-                & (n.coordinates <= coordinates.len())
-                & (n.submeshes <= submeshes.len())
-                & (n.points <= points.len())
-            {
-                fill_tables(body, pool, coordinates, submeshes, points);
-                return TablesAnswer::Tables(n);
-            }
-            TablesAnswer::Needs(n)
-        }
+    let n = measure_mesh(body)?;
+    if (n.pool <= pool.len())
+        & (n.coordinates <= coordinates.len())
+        & (n.submeshes <= submeshes.len())
+        & (n.points <= points.len())
+    {
+        fill_tables(body, pool, coordinates, submeshes, points);
+        return Ok(n);
     }
+    Err(FillError::Needs(n))
 }

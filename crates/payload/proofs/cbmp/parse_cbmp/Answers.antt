@@ -1,8 +1,9 @@
 -- `parse_cbmp` meets its contract. Assumes nothing.
-use Rattle.std.proofs.Common.{◌≡◌, ℕ, List, sym, ap, ◌∙◌}
+use Rattle.std.proofs.Common.{◌≡◌, ℕ, List, sym, ◌∙◌}
 use Rattle.bits.specs.Verdict.{Verdict, accepted, declined}
-use Rattle.payload.specs.Payload.{full_box, full_box_says}
+use Rattle.payload.specs.Payload.{full_box}
 use Rattle.payload.specs.Cbmp.{layout_then_padding, cbmp_read}
+use Rattle.bits.proofs.SaysLaws.{passed}
 use Rattle.bits.proofs.VerdictLaws.{limited_yes, limited_no}
 use Rattle.payload.proofs.cbmp.parse_cbmp.Goals as goal
 
@@ -20,14 +21,14 @@ returns-then-payload-gt67108864 c =
     let a = c.args in
     sym (limited_no a.payload.now _ c.if-payload-gt67108864.true)
 
-pub returns-in-Declined : goal.returns-in-Declined
-returns-in-Declined c =
+pub returns-in_err-full_box : goal.returns-in_err-full_box
+returns-in_err-full_box c =
     let a = c.args in
-    head a.payload.now _ (ap full_box_says (sym c.in-Declined.is) ∙ c.full_box.ensures)
+    passed _ _ _ c.from_residual.ensures.1 ∙ head a.payload.now _ c.in_err-full_box.ensures
     ∙ sym (limited_yes a.payload.now _ c.if-payload-gt67108864.false)
 
-pub returns-in-Body : goal.returns-in-Body
-returns-in-Body c =
+pub returns : goal.returns
+returns c =
     let a = c.args in
-    rest a.payload.now _ (ap full_box_says (sym c.in-Body.is) ∙ c.full_box.ensures) _ c.layout_then_padding.ensures
+    rest a.payload.now _ c.in_ok-full_box.ensures _ c.layout_then_padding.ensures
     ∙ sym (limited_yes a.payload.now _ c.if-payload-gt67108864.false)

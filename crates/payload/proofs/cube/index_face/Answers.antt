@@ -1,24 +1,18 @@
--- `index_face` meets its contract: y rows of cells are put. Assumes nothing.
-use Rattle.std.proofs.Common.{arith}
-use Rattle.payload.specs.Cube.{cube_face}
-use Rattle.payload.proofs.FillLaws.{filling_none, filling_length, filling_room, filling_more, filling_all}
+-- `index_face` meets its contract. Assumes nothing.
+use Rattle.std.proofs.Common.{rules}
+use Rattle.payload.specs.Cube.{cube_row, cube_face}
 use Rattle.payload.proofs.cube.index_face.Goals as goal
 
-pub loop-y-init : goal.loop-y-init
-loop-y-init c = filling_none
-
-pub index_row-to-requires : goal.index_row-to-requires
+pub put_each-requires : goal.put_each-requires
 unfolding cube_face
-index_row-to-requires c = (omega arith, omega arith, omega arith, filling_room c.loop-y.invariant (omega arith) c.requires.2)
-
-pub loop-y-preserved : goal.loop-y-preserved
-loop-y-preserved c =
-    let p = c.index_row-to.ensures in
-    filling_more c.loop-y.invariant _ _ (omega arith) p.place p.numbers
-
-pub shape_of-out : goal.shape_of-out
-shape_of-out c = filling_length c.loop-y.invariant
+put_each-requires c =
+    let a = c.args in
+    let row = cube_row a.cells.n a.face in
+    record { may = (row, c.requires.room, λ i to m h r. search rules, λ i to w m r h k p. search rules) }
 
 pub returns : goal.returns
 unfolding cube_face
-returns c = let r = filling_all c.loop-y.invariant (omega arith) in record { place = r.0; numbers = r.1 }
+returns c =
+    let a = c.args in
+    let r = c.put_each.ensures.puts (cube_row a.cells.n a.face) (c.requires.room) (λ i to w m r h k p. search rules) in
+    record { place = r.0; numbers = r.1 }

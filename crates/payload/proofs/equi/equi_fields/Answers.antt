@@ -1,7 +1,8 @@
 -- `equi_fields` meets its contract. Assumes nothing.
-use Rattle.std.proofs.Common.{◌≡◌, ℕ, List, sym, ap, ◌∙◌}
+use Rattle.std.proofs.Common.{◌≡◌, ℕ, List, ◌∙◌}
 use Rattle.bits.specs.Verdict.{Verdict, accepted, declined}
-use Rattle.payload.specs.Payload.{full_box, full_box_says}
+use Rattle.bits.proofs.SaysLaws.{passed}
+use Rattle.payload.specs.Payload.{full_box}
 use Rattle.payload.specs.Equi.{four_words, equi_fields}
 use Rattle.payload.specs.declared.equi.EquiFields.{EquiFields}
 use Rattle.payload.proofs.equi.equi_fields.Goals as goal
@@ -15,12 +16,9 @@ module _ (s : List ℕ) where
   unfolding equi_fields
   rest p e o f = rw (← e) f
 
-pub returns-in-Declined : goal.returns-in-Declined
-returns-in-Declined c =
-    let a = c.args in
-    head a.s.now _ (ap full_box_says (sym c.in-Declined.is) ∙ c.full_box.ensures)
+pub returns-in_err-full_box : goal.returns-in_err-full_box
+returns-in_err-full_box c =
+    passed _ _ _ c.from_residual.ensures.1 ∙ head c.args.s.now _ c.in_err-full_box.ensures
 
-pub returns-in-Body : goal.returns-in-Body
-returns-in-Body c =
-    let a = c.args in
-    rest a.s.now _ (ap full_box_says (sym c.in-Body.is) ∙ c.full_box.ensures) _ c.four_words.ensures
+pub returns : goal.returns
+returns c = rest c.args.s.now _ c.in_ok-full_box.ensures _ c.four_words.ensures

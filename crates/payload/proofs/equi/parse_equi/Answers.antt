@@ -1,9 +1,10 @@
 -- `parse_equi` meets its contract. Assumes nothing.
-use Rattle.std.proofs.Common.{◌≡◌, ℕ, List, sym, ap, ◌∙◌}
+use Rattle.std.proofs.Common.{◌≡◌, ℕ, List, sym, ◌∙◌}
 use Rattle.bits.specs.Verdict.{Verdict, accepted, declined, mapped}
-use Rattle.payload.specs.Equi.{equi_fields, equi_usable, equi_read, equi_read_says, with_crop}
+use Rattle.payload.specs.Equi.{equi_fields, equi_usable, equi_read, with_crop}
 use Rattle.payload.specs.declared.equi.EquiFields.{EquiFields}
 use Rattle.payload.specs.declared.crop.Bounds.{Bounds}
+use Rattle.bits.proofs.SaysLaws.{passed}
 use Rattle.bits.proofs.VerdictLaws.{limited_yes, limited_no}
 use Rattle.payload.proofs.equi.parse_equi.Goals as goal
 
@@ -19,14 +20,14 @@ returns-then-payload-gt67108864 c =
     let a = c.args in
     sym (limited_no a.payload.now _ c.if-payload-gt67108864.true)
 
-pub returns-in-Declined : goal.returns-in-Declined
-returns-in-Declined c =
+pub returns-in_err-equi_fields : goal.returns-in_err-equi_fields
+returns-in_err-equi_fields c =
     let a = c.args in
-    head a.payload.now _ (ap equi_read_says (sym c.in-Declined.is) ∙ c.equi_fields.ensures)
+    passed _ _ _ c.from_residual.ensures.1 ∙ head a.payload.now _ c.in_err-equi_fields.ensures
     ∙ sym (limited_yes a.payload.now _ c.if-payload-gt67108864.false)
 
-pub returns-in-Fields : goal.returns-in-Fields
-returns-in-Fields c =
+pub returns : goal.returns
+returns c =
     let a = c.args in
-    rest a.payload.now _ (ap equi_read_says (sym c.in-Fields.is) ∙ c.equi_fields.ensures) _ c.judged.ensures
+    rest a.payload.now _ c.in_ok-equi_fields.ensures _ c.judged.ensures
     ∙ sym (limited_yes a.payload.now _ c.if-payload-gt67108864.false)

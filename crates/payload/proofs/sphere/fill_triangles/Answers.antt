@@ -1,40 +1,13 @@
 -- `fill_triangles` meets its contract: i triangles are put. Assumes nothing.
-use Rattle.std.proofs.Common.{◌≡◌, ◌+◌, ◌≤◌, length, refl, arith}
-use Rattle.payload.specs.Fill.{each}
-use Rattle.payload.specs.InternalSphere.{shifted}
-use Rattle.payload.proofs.FillLaws.{holds_none, holds_length, holds_next, holds_room}
+use Rattle.std.proofs.Common.{refl, arith}
+use Rattle.payload.proofs.FillLaws.{placed_none, placed_room, placed_more}
 use Rattle.payload.proofs.sphere.fill_triangles.Goals as goal
 
 pub loop-i-init : goal.loop-i-init
-loop-i-init c = let a = c.args in (omega arith, holds_none (shifted a.a a.b a.c) a.out.now a.at)
+loop-i-init c = placed_none
 
-pub put_triangle-requires : goal.put_triangle-requires
-put_triangle-requires c =
-    let room : (c.loop-i.to + 3 ≤ length c.args.out.now) × (length c.loop-i.out ≡ length c.args.out.now) = (let l = c.loop-i in
-    let a = c.args in
-    holds_room (shifted a.a a.b a.c) l.i a.out.now l.out a.at l.to l.invariant.1 a.n (omega arith) (omega arith)) in
-    omega (arith, room)
-
-pub overflow_add-to : goal.overflow_add-to
-overflow_add-to c =
-    let room : (c.loop-i.to + 3 ≤ length c.args.out.now) × (length c.loop-i.out ≡ length c.args.out.now) = (let l = c.loop-i in
-    let a = c.args in
-    holds_room (shifted a.a a.b a.c) l.i a.out.now l.out a.at l.to l.invariant.1 a.n (omega arith) (omega arith)) in
-    omega (arith, room)
+pub put-to-requires : goal.put-to-requires
+put-to-requires c = placed_room c.loop-i.invariant c.args.n refl (omega arith) c.requires.n_in_bounds
 
 pub loop-i-preserved : goal.loop-i-preserved
-loop-i-preserved c =
-    let l = c.loop-i in
-    let a = c.args in
-    (omega arith, holds_next (shifted a.a a.b a.c) l.i a.out.now l.out a.at l.to l.invariant.1 _ _ (refl, c.put_triangle.ensures))
-
-pub shape_of-out : goal.shape_of-out
-shape_of-out c =
-    let l = c.loop-i in
-    let a = c.args in
-    holds_length a.out.now a.at (each (shifted a.a a.b a.c) l.i) l.out l.to l.invariant.1
-
-pub returns : goal.returns
-returns c =
-    let l = c.loop-i in
-    let e : l.i ≡ c.args.n = omega arith in let r = rw e at l.invariant.1 in record { place = r.0; numbers = r.1 }
+loop-i-preserved c = placed_more c.loop-i.invariant refl c.put-to.ensures.place c.put-to.ensures.stored

@@ -7,4 +7,4 @@ pub returns-then-is_unusable : goal.returns-then-is_unusable
 returns-then-is_unusable c = fov_default _ (sym c.is_unusable.ensures ∙ c.if-is_unusable.true)
 
 pub returns : goal.returns
-returns c = c.clamp.ensures ∙ fov_clamped _ (sym c.is_unusable.ensures ∙ c.if-is_unusable.false)
+returns c = c.clamp.ensures.value ∙ fov_clamped _ (sym c.is_unusable.ensures ∙ c.if-is_unusable.false)

@@ -16,8 +16,8 @@ returns-then-word_is_finite c =
     ∙ sym (word_good a.s.now (8 * a.i) (omega arith)
     (ap finite_word (sym w.ensures) ∙ sym c.word_is_finite.ensures ∙ c.if-word_is_finite.true))
 
-pub returns-else-word_is_finite : goal.returns-else-word_is_finite
-returns-else-word_is_finite c =
+pub returns : goal.returns
+returns c =
     let a = c.args in
     sym (word_other a.s.now (8 * a.i) (omega arith)
     (ap finite_word (sym c.word-fetched.ensures) ∙ sym c.word_is_finite.ensures ∙ c.if-word_is_finite.false))

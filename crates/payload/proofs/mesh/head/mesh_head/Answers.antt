@@ -23,53 +23,35 @@ word-n-requires c = omega (arith, head_room c.args.s.now c.requires.1 _ refl)
 pub word-m-requires : goal.word-m-requires
 word-m-requires c = omega (arith, head_room c.args.s.now c.requires.1 c.word-n.result c.word-n.ensures)
 
-pub overflow_mul-end-2 : goal.overflow_mul-end-2
-overflow_mul-end-2 c =
+pub submeshes_at-place-requires : goal.submeshes_at-place-requires
+submeshes_at-place-requires c =
     let known = counted c.args.s.now c.requires.1 c.word-n.result c.word-m.result c.word-n.ensures c.word-m.ensures in
-    let wide : 5 * c.word-m.result * c.bit_width.result ≡ 5 * c.word-m.result * width_of c.word-n.result = ap (λ (w : ℕ). 5 * c.word-m.result * w) c.bit_width.ensures in
-    omega (arith, wide, known.tail)
-
-pub overflow_add-end : goal.overflow_add-end
-overflow_add-end c =
-    let known = counted c.args.s.now c.requires.1 c.word-n.result c.word-m.result c.word-n.ensures c.word-m.ensures in
-    let wide : 5 * c.word-m.result * c.bit_width.result ≡ 5 * c.word-m.result * width_of c.word-n.result = ap (λ (w : ℕ). 5 * c.word-m.result * w) c.bit_width.ensures in
-    omega (arith, wide, known.tail)
-
-pub overflow_add-place : goal.overflow_add-place
-overflow_add-place c =
-    let known = counted c.args.s.now c.requires.1 c.word-n.result c.word-m.result c.word-n.ensures c.word-m.ensures in
-    let wide : 5 * c.word-m.result * c.bit_width.result ≡ 5 * c.word-m.result * width_of c.word-n.result = ap (λ (w : ℕ). 5 * c.word-m.result * w) c.bit_width.ensures in
-    omega (arith, wide, known.tail)
-
-pub overflow_mul-place : goal.overflow_mul-place
-overflow_mul-place c =
-    let known = counted c.args.s.now c.requires.1 c.word-n.result c.word-m.result c.word-n.ensures c.word-m.ensures in
-    let wide : 5 * c.word-m.result * c.bit_width.result ≡ 5 * c.word-m.result * width_of c.word-n.result = ap (λ (w : ℕ). 5 * c.word-m.result * w) c.bit_width.ensures in
-    omega (arith, wide, known.tail)
-
-pub overflow_cast-result : goal.overflow_cast-result
-overflow_cast-result c =
-    let known = counted c.args.s.now c.requires.1 c.word-n.result c.word-m.result c.word-n.ensures c.word-m.ensures in
-    omega (arith, known.n_most)
-
-pub overflow_add-result : goal.overflow_add-result
-overflow_add-result c =
-    let known = counted c.args.s.now c.requires.1 c.word-n.result c.word-m.result c.word-n.ensures c.word-m.ensures in
-    let wide : 5 * c.word-m.result * c.bit_width.result ≡ 5 * c.word-m.result * width_of c.word-n.result = ap (λ (w : ℕ). 5 * c.word-m.result * w) c.bit_width.ensures in
-    omega (arith, wide, known.tail)
+    (known.n_most, omega (arith, known.m_most))
 
 pub overflow_cast-result-2 : goal.overflow_cast-result-2
 overflow_cast-result-2 c =
+    let known = counted c.args.s.now c.requires.1 c.word-n.result c.word-m.result c.word-n.ensures c.word-m.ensures in
+    omega (arith, known.n_most)
+
+pub overflow_cast-result-3 : goal.overflow_cast-result-3
+overflow_cast-result-3 c =
     let known = counted c.args.s.now c.requires.1 c.word-n.result c.word-m.result c.word-n.ensures c.word-m.ensures in
     omega (arith, known.m_most)
 
 pub one_field-requires : goal.one_field-requires
 one_field-requires c =
     let known = counted c.args.s.now c.requires.1 c.word-n.result c.word-m.result c.word-n.ensures c.word-m.ensures in
-    let wide : 5 * c.word-m.result * c.bit_width.result ≡ 5 * c.word-m.result * width_of c.word-n.result = ap (λ (w : ℕ). 5 * c.word-m.result * w) c.bit_width.ensures in
-    omega (arith, wide, known.tail)
+    omega (arith, c.submeshes_at-place.ensures.place, known.tail)
 
 pub returns : goal.returns
 returns c =
     let vertices = vertex_count c.args.s.now c.word-n.result c.word-m.result c.word-m.ensures in
-    record { pool = c.word-n.ensures; start = refl; count = vertices; vertices = refl; first = rw c.bit_width.ensures; left = c.one_field.ensures ∙ rw c.bit_width.ensures }
+    record {
+      pool = c.word-n.ensures;
+      start = refl;
+      count = vertices;
+      vertices = refl;
+      first =
+          rw c.submeshes_at-place.ensures.place;
+      left = c.one_field.ensures ∙ rw c.submeshes_at-place.ensures.place;
+    }

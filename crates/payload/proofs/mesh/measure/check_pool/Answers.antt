@@ -1,37 +1,30 @@
 -- `check_pool` meets its contract: each turn is a word more. Assumes nothing.
-use Rattle.std.proofs.Common.{◌≡◌, ◌+◌, ◌-◌, ◌*◌, sym, refl, ap, ◌∙◌, arith}
-use Rattle.payload.specs.Internal.{word_says}
+use Rattle.std.proofs.Common.{◌≡◌, ◌+◌, ◌-◌, ◌*◌, sym, ap₂, ◌∙◌, arith}
+use Rattle.bits.proofs.SaysLaws.{passed}
 use Rattle.payload.proofs.PoolLaws.{pool_from, pool_none, pool_stop, pool_next}
 use Rattle.payload.proofs.mesh.measure.check_pool.Goals as goal
 
-pub loop-left-init : goal.loop-left-init
-loop-left-init c = record { place = refl; same = refl }
-
-pub pool_word-requires : goal.pool_word-requires
-pool_word-requires c = (omega arith, omega (arith, c.loop-left.invariant.place))
-
-pub returns-in-Declined : goal.returns-in-Declined
-returns-in-Declined c =
+pub returns-in_err-pool_word : goal.returns-in_err-pool_word
+returns-in_err-pool_word c =
     let s = c.args.s.now in
-    let l = c.loop-left in
-    let e = sym c.pool_word.ensures ∙ ap (word_says (8 * l.at)) c.in-Declined.is in
-    pool_stop s l.left (8 * l.at) _ (omega arith) e ∙ sym l.invariant.same
+    let l = c.loop-i in
+    let z : 8 * (4 * l.i + 4) ≡ 32 * l.i + 32 = omega arith in
+    passed _ _ _ c.from_residual.ensures.1
+    ∙ pool_stop s (c.args.n - l.i) (32 * l.i + 32) _ (omega arith) (sym (rw z at c.in_err-pool_word.ensures))
+    ∙ sym l.invariant
 
-pub overflow_add-at : goal.overflow_add-at
-overflow_add-at c = omega (arith, c.loop-left.invariant.place)
-
-pub loop-left-preserved : goal.loop-left-preserved
-loop-left-preserved c =
+pub loop-i-preserved : goal.loop-i-preserved
+loop-i-preserved c =
     let s = c.args.s.now in
-    let l = c.loop-left in
-    let e = sym c.pool_word.ensures ∙ ap (word_says (8 * l.at)) c.in-Finite.is in
-    let z : 8 * l.at + 32 ≡ 8 * (l.at + 4) = omega arith in
-    record {
-      place = omega (arith, l.invariant.place);
-      same = l.invariant.same ∙ pool_next s l.left (8 * l.at) _ (8 * l.at + 32) (omega arith) e ∙ ap (pool_from s (l.left - 1)) z;
-    }
+    let l = c.loop-i in
+    let z : 8 * (4 * l.i + 4) ≡ 32 * l.i + 32 = omega arith in
+    let y : 32 * l.i + 32 + 32 ≡ 32 * (l.i + 1) + 32 = omega arith in
+    let x : c.args.n - l.i - 1 ≡ c.args.n - (l.i + 1) = omega arith in
+    l.invariant
+    ∙ pool_next s (c.args.n - l.i) (32 * l.i + 32) _ _ (omega arith) (sym (rw z at c.in_ok-pool_word.ensures))
+    ∙ ap₂ (pool_from s) x y
 
 pub returns : goal.returns
 returns c =
-    let l = c.loop-left in
-    pool_none c.args.s.now l.left (8 * l.at) (omega arith) ∙ sym l.invariant.same
+    let l = c.loop-i in
+    pool_none c.args.s.now (c.args.n - l.i) (32 * l.i + 32) (omega arith) ∙ sym l.invariant

@@ -1,44 +1,56 @@
--- `check_submeshes` meets its contract. The invariant: the answer from here on, with the points counted so far, is the whole answer. Assumes nothing.
-use Rattle.std.proofs.Common.{◌+◌, ◌*◌, ◌≤◌, length, sym, ap, ◌∙◌, arith}
-use Rattle.payload.specs.Internal.{submesh_says}
+-- `check_submeshes` meets its contract. Assumes nothing.
+use Rattle.std.proofs.Common.{◌≡◌, ℕ, ◌+◌, ◌-◌, sym, ap, ◌∙◌, arith}
+use Rattle.bits.specs.Verdict.{mapped}
+use Rattle.bits.proofs.SaysLaws.{passed}
+use Rattle.payload.specs.MeshRead.{many, read_submesh}
 use Rattle.payload.proofs.RangeLaws.{width_some}
-use Rattle.payload.proofs.CheckLaws.{submesh_end, counted_all, counted_end, counted_declined, counted_on}
+use Rattle.payload.proofs.CheckLaws.{submesh_end, counted, counted_all, counted_end, counted_declined, counted_on}
 use Rattle.payload.proofs.mesh.measure.check_submeshes.Goals as goal
 
-pub loop-left-init : goal.loop-left-init
-loop-left-init c = let a = c.args in (counted_all a.s.now a.w a.m a.count a.p, omega arith, omega arith, omega arith)
-
-pub returns-in-Declined : goal.returns-in-Declined
-returns-in-Declined c =
+pub loop-i-init : goal.loop-i-init
+loop-i-init c =
     let a = c.args in
-    let l = c.loop-left in
-    sym (l.invariant.0 ∙ counted_declined a.s.now a.w a.m a.count l.points l.left l.bit _ (omega arith) (ap submesh_says (sym c.in-Declined.is) ∙ c.check_submesh.ensures))
+    let z : a.count ≡ a.count - 0 = omega arith in
+    let all = counted_all a.s.now a.w a.m a.count a.p
+    ∙ ap (λ (n : ℕ). mapped (counted a.count 0) (many (read_submesh a.s.now a.w a.m) n a.p)) z in
+    record { same = all; low = omega arith; inside = omega arith; few = omega arith }
+
+pub returns-in_err-submesh : goal.returns-in_err-submesh
+returns-in_err-submesh c =
+    let a = c.args in
+    let l = c.loop-i in
+    passed _ _ _ c.from_residual.ensures.1
+    ∙ sym (l.invariant.same
+    ∙ counted_declined a.s.now a.w a.m a.count l.points (a.count - l.i) l.bit _ (omega arith) c.in_err-submesh.ensures)
 
 pub overflow_add-points : goal.overflow_add-points
 overflow_add-points c =
-    let after : (c.in-At.q ≤ 8 * length c.args.s.now) × (c.loop-left.bit + c.in-At.n ≤ c.in-At.q) = (let a = c.args in
-    let l = c.loop-left in
-    let q = c.requires in
-    submesh_end a.s.now a.w a.m l.bit _ _ (rw q.wide (width_some a.m q.some)) (ap submesh_says (sym c.in-At.is) ∙ c.check_submesh.ensures)) in
-    omega (arith, after)
-
-pub loop-left-preserved : goal.loop-left-preserved
-loop-left-preserved c =
-    let after : (c.in-At.q ≤ 8 * length c.args.s.now) × (c.loop-left.bit + c.in-At.n ≤ c.in-At.q) = (let a = c.args in
-    let l = c.loop-left in
-    let q = c.requires in
-    submesh_end a.s.now a.w a.m l.bit _ _ (rw q.wide (width_some a.m q.some)) (ap submesh_says (sym c.in-At.is) ∙ c.check_submesh.ensures)) in
     let a = c.args in
-    let l = c.loop-left in
-    let e = after in (
-      l.invariant.0 ∙ counted_on a.s.now a.w a.m a.count l.points l.left l.bit _ _ (omega arith) (ap submesh_says (sym c.in-At.is) ∙ c.check_submesh.ensures),
-      omega arith,
-      omega arith,
-      omega arith,
-    )
+    let q = c.requires in
+    let e = c.in_ok-submesh.ensures in
+    let after = submesh_end a.s.now a.w a.m c.loop-i.bit _ _ (rw q.wide (width_some a.m q.some)) e in
+    omega (arith, after, c.loop-i.invariant.few)
+
+pub loop-i-preserved : goal.loop-i-preserved
+loop-i-preserved c =
+    let a = c.args in
+    let l = c.loop-i in
+    let q = c.requires in
+    let e = c.in_ok-submesh.ensures in
+    let after = c.in_ok-submesh.submesh in
+    let end = submesh_end a.s.now a.w a.m l.bit _ _ (rw q.wide (width_some a.m q.some)) e in
+    let x : a.count - l.i - 1 ≡ a.count - (l.i + 1) = omega arith in
+    record {
+      same = l.invariant.same
+          ∙ counted_on a.s.now a.w a.m a.count l.points (a.count - l.i) l.bit _ _ (omega arith) e
+          ∙ ap (λ (n : ℕ). mapped (counted a.count (l.points + after.points)) (many (read_submesh a.s.now a.w a.m) n after.bit)) x;
+      low = omega (arith, end, l.invariant.low);
+      inside = omega (arith, end);
+      few = omega (arith, end, l.invariant.few);
+    }
 
 pub returns : goal.returns
 returns c =
     let a = c.args in
-    let l = c.loop-left in
-    sym (l.invariant.0 ∙ counted_end a.s.now a.w a.m a.count l.points l.left l.bit (omega arith))
+    let l = c.loop-i in
+    sym (l.invariant.same ∙ counted_end a.s.now a.w a.m a.count l.points (a.count - l.i) l.bit (omega arith))

@@ -10,6 +10,3 @@ pub record Inv (s : List ℕ) (n : ℕ) (out₀ out : List ℕ) (i : ℕ) : Type
 
 abbrev pub invariant-loop-i : goal.invariant-loop-i
 invariant-loop-i l = Inv l.s l.n l.initial.out l.out l.i
-
-abbrev pub decreases-loop-i : goal.decreases-loop-i
-decreases-loop-i l = l.end - l.i

@@ -5,4 +5,9 @@ use Rattle.payload.proofs.mesh.vertices.fill_vertices.Goals as goal
 
 pub returns : goal.returns
 returns c =
-    let a = c.args in record { numbers = fives_stored a.s.now a.run c.bit_width-width.result a.at a.out.now c.fill_fives.new.out c.requires.vertices_there c.bit_width-width.ensures c.requires.count_in_bounds (a.at + 5 * a.run.count - a.at) (omega arith) c.fill_fives.ensures.numbers }
+    let a = c.args in record {
+      numbers =
+          fives_stored a.s.now a.run c.bit_width-width.result a.at a.out.now c.fill_fives.new.out
+          c.requires.vertices_there c.bit_width-width.ensures c.requires.count_in_bounds
+          (a.at + 5 * a.run.count - a.at) (omega arith) c.fill_fives.ensures.numbers;
+    }

@@ -1,9 +1,0 @@
--- `u_bits` meets its contract. Assumes nothing.
-use Rattle.std.proofs.Common.{◌∙◌, ap₂}
-use lib.Ieee.{Float}
-use Rattle.bits.specs.Float.{bits_of}
-use Rattle.payload.specs.Float.{◌⊘◌}
-use Rattle.payload.proofs.sphere.u_bits.Goals as goal
-
-pub returns : goal.returns
-returns c = c.float_bits.ensures ∙ ap₂ (λ (x n : Float). bits_of (x ⊘ n)) c.nearest_f32-x.ensures c.nearest_f32-n.ensures
