@@ -1,6 +1,6 @@
 -- Laws of the asked numbers: the nearer of two, and the farthest. Assumes nothing.
-use Prim.Native.Nat.{ℕ, zero, suc, ◌-◌, ◌≤◌, ◌<◌, max, suc-le-suc}
-use mathlib.Core.Path.{◌≡◌, refl, ap, ◌∙◌}
+use Prim.Native.Nat.{ℕ, zero, suc, ◌+◌, ◌≤◌, ◌<◌, max, suc-le-suc}
+use mathlib.Core.Path.{◌≡◌, refl}
 use mathlib.Core.Bool.{true, false, cond}
 use mathlib.Core.List.{List, [], ◌∷◌}
 use mathlib.Core.Logic.{◌⊎◌, inl, inr}
@@ -8,10 +8,10 @@ use native.Mathlib.Omega.{arith}
 use native.Mathlib.Nat.{le_of_suc-le-suc, zero-lt-suc}
 use lib.Dec.{ltb}
 use lib.ListN.{length, get_or, drop}
-use lib.Seq.{drop-cons, drop-length}
 use borrow.Author.Tests.{le-leb, lt-leb, le-ltb, lt-ltb}
 use Rattle.bits.proofs.VerdictLaws.{clash, le-or-lt}
 use Rattle.payload.specs.MeshWrite.{all_of, all_below}
+use Rattle.payload.proofs.PutRunLaws.{rest-cons, rest-none}
 use Rattle.alignment.specs.LookUp.{farthest}
 use Rattle.alignment.specs.Internal.{nearest}
 
@@ -75,17 +75,13 @@ far_at (k ∷ l) zero h = omega arith
 far_at (k ∷ l) (suc i) h = omega (arith, far_at l i (le_of_suc-le-suc h))
 
 -- the farthest of those from place i on
-pub far_none : (l : List ℕ) → farthest (drop (length l) l) ≡ 0
+pub far_first : (l : List ℕ) (i : ℕ) → i < length l → farthest (drop i l) ≡ max (farthest (drop (i + 1) l)) (suc (get_or l i 0))
 unfolding farthest
-far_none l = ap farthest (drop-length l)
+far_first l i h = rw (rest-cons l i h)
 
-pub far_back : (l : List ℕ) (i : ℕ) → 0 < i → i ≤ length l
-    → farthest (drop (i - 1) l) ≡ max (farthest (drop i l)) (suc (get_or l (i - 1) 0))
+pub far_end : (l : List ℕ) (i : ℕ) → length l ≤ i → farthest (drop i l) ≡ 0
 unfolding farthest
-far_back l i o h =
-    let z : suc (i - 1) ≡ i = omega arith in
-    ap farthest (drop-cons l (i - 1) 0 (omega arith))
-    ∙ ap (λ (k : ℕ). max (farthest (drop k l)) (suc (get_or l (i - 1) 0))) z
+far_end l i h = rw (rest-none l i h)
 
 -- all numbers are below n where the farthest is at most n
 pub below_far : (n : ℕ) (l : List ℕ) → farthest l ≤ n → all_below n l ≡ true

@@ -1,7 +1,7 @@
 -- What looking up points of a submesh says, and what it puts into the buffer: the vertex numbers are the reading's, and
 -- the count is that of the walk's last state.
-use Rattle.std.specs.Prelude.{ℕ, suc, max, List, [], ◌∷◌, map, Bool, ◌&&◌, cond, leb, length, get_or}
-use Rattle.bits.specs.Verdict.{Verdict, accepted, needs, declined, and_then, mapped}
+use Rattle.std.specs.Prelude.{ℕ, suc, max, List, [], ◌∷◌, map, Bool, ◌&&◌, cond, leb, length, get_or, Result}
+use Rattle.bits.specs.Verdict.{Verdict, declined, and_then, mapped}
 use Rattle.bits.specs.declared.fields.runs.Run.{Run}
 use Rattle.payload.specs.Lent.{Plan}
 use Rattle.payload.specs.Mesh.{Submesh}
@@ -9,8 +9,8 @@ use Rattle.payload.specs.MeshWrite.{all_below}
 use Rattle.payload.specs.Places.{body_of, submesh_found}
 use Rattle.alignment.specs.Walk.{walk_of}
 use Rattle.alignment.specs.declared.walk.Walk.{Walk}
-use Rattle.alignment.specs.declared.lookup.LookUp.{LookUp}
-use Rattle.alignment.specs.declared.lookup.LookUp.TheVariants as L
+use Rattle.bits.specs.Says.{fill_says}
+use Rattle.bits.specs.declared.refusals.FillError.{FillError}
 
 -- the largest asked number plus one, or 0 for no question
 unfoldable pub farthest : List ℕ → ℕ
@@ -41,7 +41,5 @@ unfoldable pub looked_up : List ℕ → ℕ → List ℕ → Verdict (Plan ℕ)
 looked_up s j asked =
     and_then (submesh_found s j) (λ x. looked_up_in (body_of s x) x.place.run x.submesh asked)
 
-abbrev pub look_up_says : LookUp → Verdict ℕ
-look_up_says (L.Walked n) = accepted n
-look_up_says (L.Needs n) = needs (n ∷ [])
-look_up_says (L.Declined k) = declined k
+abbrev pub look_up_says : Result ℕ (FillError ℕ) → Verdict ℕ
+look_up_says r = fill_says (λ n. n) (λ n. n ∷ []) r

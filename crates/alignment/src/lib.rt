@@ -5,4 +5,4 @@ mod lookup;
 mod questions;
 mod walk;
 
-pub use lookup::{LookUp, look_up};
+pub use lookup::look_up;

@@ -15,12 +15,10 @@ pub(crate) fn chain_questions(
     requires { Stretches asked.now width × ChainedTo asked.now width 0 lasts.old earlier.old }
     ensures { Chained asked.now width lasts.new earlier.new }
 {
-    let mut i = 0;
-    while i < asked.len() {
-        let stretch = (asked[i] / width) as usize;
+    for (i, k) in asked.iter().enumerate() {
+        let stretch = (*k / width) as usize;
         earlier[i] = lasts[stretch];
-        i += 1;
-        lasts[stretch] = i as u16;
+        lasts[stretch] = i as u16 + 1;
     }
 }
 
@@ -31,10 +29,7 @@ fn nearer(after: u32, k: u32, best: u32) -> u32
     if k <= after {
         return best;
     }
-    if best <= k {
-        return best;
-    }
-    k
+    best.min(k)
 }
 
 // Stores a vertex number where its point is the one that was asked.
@@ -43,36 +38,39 @@ fn put_where(out: &mut [u16], i: usize, k: u32, point: u32, vertex: u16)
     ensures { out.new
         ≡ cond (eqb k point) (set out.old i vertex) out.old }
 {
-    if k != point {
-        return;
+    if k == point {
+        out[i] = vertex;
     }
-    out[i] = vertex;
 }
 
-// Stores a vertex number at each place where its point is asked, and returns where to look for questions next: the
-// least asked number after that point in its stretch, or where the stretch ends.
-pub(crate) fn answer_point(
-    asked: &[u32],
-    width: u32,
-    lasts: &[u16; 1024],
-    earlier: &[u16; 256],
-    point: u32,
-    vertex: u16,
-    out: &mut [u16],
-) -> u32
-    requires { Chained asked.now width lasts.now earlier.now × (point < 1024 * width)
-        × (length asked.now ≤ length out.old) }
-    ensures { Answered asked.now point vertex out.old result out.new }
-{
-    let stretch = point / width;
-    let mut next = (stretch + 1) * width;
-    let mut place = lasts[stretch as usize];
-    while 0 < place {
-        let i = place as usize - 1;
-        let k = asked[i];
-        put_where(out, i, k, point, vertex);
-        next = nearer(point, k, next);
-        place = earlier[i];
+// The asked points with their chains, each question in the one of its stretch.
+#[derive(Clone, Copy)]
+pub(crate) struct Chains<'a> {
+    pub asked: &'a [u32],
+    pub width: u32,
+    pub lasts: &'a [u16; 1024],
+    pub earlier: &'a [u16; 256],
+    ghost chained: { Chained asked.now width lasts.now earlier.now },
+}
+
+impl<'a> Chains<'a> {
+    // Stores a vertex number at each place where its point is asked, and returns where to look for questions next: the
+    // least asked number after that point in its stretch, or where the stretch ends.
+    pub(crate) fn answer_point(&self, point: u32, vertex: u16, out: &mut [u16]) -> u32
+        requires { (point < 1024 * self.now.width) × (length self.now.asked.now ≤ length out.old) }
+        ensures { Answered self.now.asked.now point vertex out.old result out.new }
+    {
+        let stretch = point / self.width;
+        let mut next = (stretch + 1) * self.width;
+        let mut place = self.lasts[stretch as usize];
+        // no index is counted here: the chain leads from place to place
+        while 0 < place {
+            let i = place as usize - 1;
+            let k = self.asked[i];
+            put_where(out, i, k, point, vertex);
+            next = nearer(point, k, next);
+            place = self.earlier[i];
+        }
+        next
     }
-    next
 }

@@ -7,10 +7,10 @@ ghost use Rattle.payload.specs.Internal.{WasRead};
 ghost use Rattle.alignment.specs.LookUp.{farthest};
 ghost use Rattle.alignment.specs.Walk.{step, walk_of};
 ghost use Rattle.alignment.specs.Internal.{StepRoom, WalkRoom, number_after};
-ghost use Rattle.alignment.specs.Internal.{Chained, Settled};
+ghost use Rattle.alignment.specs.Internal.{Settled};
 
-use super::questions::{answer_point, chain_questions};
-use bits::{BitCursor, FieldRead, Run, Running};
+use super::questions::{Chains, chain_questions};
+use bits::{BitCursor, Run};
 
 // The bit place, the running number, and how many fields were taken.
 #[derive(Clone, Copy)]
@@ -26,9 +26,9 @@ fn next_number(last: u16, field: u32, limit: u16) -> u16
     ensures { accepted result ≡ ran_on limit last field }
 {
     match bits::run_on(last as u32, field, limit as u32) {
-        Running::At(next) => next as u16,
+        Ok(next) => next as u16,
         // never
-        Running::Out => last,
+        Err(_) => last,
     }
 }
 
@@ -39,54 +39,36 @@ fn take_field(s: &[u8], width: u32, limit: u16, v: Walk) -> Walk
 {
     let here = BitCursor { bit: v.bit };
     match here.read(s, width) {
-        FieldRead::Value(field, after) => Walk {
+        Ok((field, after)) => Walk {
             bit: after.bit,
             number: next_number(v.number, field, limit),
             taken: v.taken + 1,
         },
         // never: it is there, and no wider than 32 bits
-        FieldRead::Short => v,
-        FieldRead::TooWide => v,
+        Err(_) => v,
     }
 }
 
 // After a step: where it reached the point at which to look for questions next, answers those that ask for it, and
 // returns the point after it at which to look.
-fn settle(
-    asked: &[u32],
-    width: u32,
-    lasts: &[u16; 1024],
-    earlier: &[u16; 256],
-    v: Walk,
-    next: u32,
-    out: &mut [u16],
-) -> u32
-    requires { Chained asked.now width lasts.now earlier.now × (v.taken < 1024 * width)
-        × (length asked.now ≤ length out.old) }
-    ensures { Settled asked.now v next out.old result out.new }
+fn settle(chains: &Chains<'_>, v: Walk, next: u32, out: &mut [u16]) -> u32
+    requires { (v.taken < 1024 * chains.now.width) × (length chains.now.asked.now ≤ length out.old) }
+    ensures { Settled chains.now.asked.now v next out.old result out.new }
 {
     if v.taken <= next {
         return next;
     }
-    answer_point(asked, width, lasts, earlier, next, v.number, out)
+    chains.answer_point(next, v.number, out)
 }
 
 // Walks a run, up to the farthest asked point, and stores the vertex numbers of all that are asked on the way. Returns
-// the last state. The questions are chained by stretches of that width.
-fn walk_chained(
-    s: &[u8],
-    run: Run,
-    asked: &[u32],
-    stretch: u32,
-    lasts: &[u16; 1024],
-    earlier: &[u16; 256],
-    out: &mut [u16],
-) -> Walk
-    requires { WalkRoom s.now run × (run.count ≡ farthest asked.now) × (run.count < 1024 * stretch)
-        × Chained asked.now stretch lasts.now earlier.now × (length asked.now ≤ length out.old) }
-    ensures state { accepted result ≡ walk_of s.now run (farthest asked.now) }
+// the last state.
+fn walk_chained(s: &[u8], run: Run, chains: &Chains<'_>, out: &mut [u16]) -> Walk
+    requires { WalkRoom s.now run × (run.count ≡ farthest chains.now.asked.now)
+        × (run.count < 1024 * chains.now.width) × (length chains.now.asked.now ≤ length out.old) }
+    ensures state { accepted result ≡ walk_of s.now run (farthest chains.now.asked.now) }
     ensures numbers { out.new
-        ≡ sets out.old 0 (map (number_after s.now run) asked.now) }
+        ≡ sets out.old 0 (map (number_after s.now run) chains.now.asked.now) }
 {
     let width = bits::bit_width(run.limit as u32);
     let mut v = Walk {
@@ -95,9 +77,9 @@ fn walk_chained(
         taken: 0,
     };
     let mut next: u32 = 0;
-    while v.taken < run.count {
+    for _ in 0..run.count {
         v = take_field(s, width, run.limit, v);
-        next = settle(asked, stretch, lasts, earlier, v, next, out);
+        next = settle(chains, v, next, out);
     }
     v
 }
@@ -115,5 +97,11 @@ pub(crate) fn walk_asked(s: &[u8], run: Run, asked: &[u32], out: &mut [u16]) -> 
     let mut lasts = [0u16; 1024];
     let mut earlier = [0u16; 256];
     chain_questions(asked, stretch, &mut lasts, &mut earlier);
-    walk_chained(s, run, asked, stretch, &lasts, &earlier, out)
+    let chains = Chains {
+        asked,
+        width: stretch,
+        lasts: &lasts,
+        earlier: &earlier,
+    };
+    walk_chained(s, run, &chains, out)
 }

@@ -103,16 +103,17 @@ module _ {words : List ℕ} {i points numbers : ℕ} (j : Judging words i points
     pub judging_many : 4294967295 < points + r.points → declined 15 ≡ mapped length (triangles_made words)
     judging_many f = refused (after_many points r _ f)
 
-    pub judging_on : record_usable r ≡ true → points + r.points ≤ 4294967295
-        → Judging words (i + 5) (points + r.points) (numbers + 3 * triangle_count r.mode r.points)
-    judging_on f few =
-        record {
+    pub judging_on : record_usable r ≡ true → points + r.points ≤ 4294967295 → (k : ℕ) → k ≡ i + 5
+        → Judging words k (points + r.points) (numbers + 3 * triangle_count r.mode r.points)
+    judging_on f few k g =
+        rw g
+        (record {
           fives = fives_on j.fives h;
           few = few;
           small = omega (arith, j.small, count_few r);
           counted = omega (arith, j.counted, rest_long j.fives h r e, count r);
           judged = j.judged ∙ ap (usable_after points) (rest j.fives h r e) ∙ after_on points r _ f;
-        }
+        })
 
   pub judging_end : length words ≤ i → accepted numbers ≡ mapped length (triangles_made words)
   unfolding triangles_of

@@ -1,32 +1,39 @@
 -- Rising from wish to wish: the counts of the code's loops, and that a jump is so many whole turns.
 use Prim.Native.Nat.{ℕ, zero, suc, ◌+◌, ◌-◌, ◌*◌, ◌/◌, min, ◌≤◌, ◌<◌}
 use mathlib.Core.Path.{◌≡◌, refl, sym, ap, ◌∙◌}
+use mathlib.Core.Bool.{cond}
 use mathlib.Core.List.{List, [], ◌∷◌}
 use mathlib.Core.Logic.{◌⊎◌, inl, inr}
 use native.Mathlib.Nat.{div-add-mod', mod-lt, suc-mul, mul-le-mul_right, mul-le-mul_left}
 use native.Mathlib.Numerals.{add-one}
 use native.Mathlib.Omega.{arith}
+use lib.Dec.{ltb}
 use lib.ListN.{length, get_or, drop, set}
 use lib.Seq.{sets}
 use borrow.Author.Tests.{lt-ltb, le-ltb}
+use Rattle.std.specs.List.{count_by}
+use Rattle.std.proofs.lemmas.List.Recursion.{is_count_by}
 use Rattle.bits.proofs.VerdictLaws.{le-or-lt}
 use Rattle.payload.proofs.MeshWriteLaws.{Under}
 use Rattle.payload.proofs.PutRunLaws.{rest-cons, rest-none}
 use Rattle.display.specs.Turns.{after_turn, turns, shared}
 use Rattle.display.specs.InternalLevels.{up_to, unmet_at, lowest_above}
+use Rattle.display.proofs.TurnProofs.{from_zero}
 use Rattle.display.proofs.LevelTurns.{gets_level, after_none, turns-none, turns_whole, turns_last, after_met, turns_met}
 
--- ---- counting from the front
+-- ---- counting
+
+pub unmet_is : (level : ℕ) (ws : List ℕ) → count_by (λ (w : ℕ). ltb level w) ws ≡ unmet_at level ws
+unfolding unmet_at
+unmet_is level ws = sym (is_count_by (unmet_at level) (λ (w : ℕ). ltb level w) refl (λ w l. go w (unmet_at level l) (le-or-lt w level)) ws)
+  where
+    go : (w n : ℕ) → (w ≤ level) ⊎ (level < w) → min 1 (w - level) + n ≡ cond (ltb level w) (1 + n) n
+    go w n (inl g) = rw (le-ltb level w g) (omega arith)
+    go w n (inr g) = rw (lt-ltb level w g) (omega arith)
+
+-- ---- the lowest from the front
 
 module _ (level : ℕ) (ws : List ℕ) (i : ℕ) where
-  pub unmet_first : i < length ws → unmet_at level (drop i ws) ≡ min 1 (get_or ws i 0 - level) + unmet_at level (drop (i + 1) ws)
-  unfolding unmet_at
-  unmet_first h = rw (rest-cons ws i h)
-
-  pub unmet_end : length ws ≤ i → unmet_at level (drop i ws) ≡ 0
-  unfolding unmet_at
-  unmet_end h = rw (rest-none ws i h)
-
   pub lowest_first : i < length ws → level < get_or ws i 0 → lowest_above level (drop i ws) ≡ min (get_or ws i 0) (lowest_above level (drop (i + 1) ws))
   unfolding lowest_above
   lowest_first h g = rw (rest-cons ws i h, lt-ltb level (get_or ws i 0) g)
@@ -125,6 +132,11 @@ pub record Reached (p : ℕ) (ws : List ℕ) (height left : ℕ) : Type 0 where
   pub most : height ≤ 1000000
   pub same : shared p ws ≡ turns (p - height) left ws (up_to height ws)
 
+-- before the first turn
+pub reached_none : (p : ℕ) (ws : List ℕ) → Reached p ws 0 p
+reached_none p ws =
+    let e : p - 0 ≡ p = omega arith in record { spent = omega arith; most = omega arith; same = rw e (from_zero p ws) }
+
 module _ {p : ℕ} {ws : List ℕ} {height left : ℕ} (r : Reached p ws height left) where
   -- every wish is met
   pub reached_met : unmet_at height ws ≡ 0 → shared p ws ≡ after_turn left ws (up_to height ws)
@@ -180,3 +192,10 @@ module _ (height p : ℕ) (ws : List ℕ) (i : ℕ) where
   pub put_first : i < length ws → (v q : ℕ) → v ≡ min (get_or ws i 0) height + min p (min 1 (get_or ws i 0 - height)) → q ≡ p - min p (min 1 (get_or ws i 0 - height))
       → (d t : List ℕ) → sets d i (rest height p ws i) ≡ t → sets (set d i v) (i + 1) (rest height q ws (i + 1)) ≡ t
   put_first h v q e f d t r = rw add-one (ap (λ (l : List ℕ). sets d i l) (rw add-one at (sym (rest_first h v q e f))) ∙ r)
+
+-- nothing is left to be put
+pub put_all : (height points left : ℕ) (ws d l : List ℕ) (i : ℕ) → length ws ≤ i
+    → sets l i (rest height left ws i) ≡ sets d 0 (rest height points ws 0)
+    → l ≡ sets d 0 (after_turn points ws (up_to height ws))
+unfolding rest
+put_all height points left ws d l i h e = ap (λ (r : List ℕ). sets l i r) (sym (rest_end height left ws i h)) ∙ e

@@ -15,7 +15,6 @@ pub mod DecidesProofs
 pub mod NumberedRecordLaws
 pub mod ShownListLaws
 pub mod ShownSumLaws
-pub mod ClosingLaws
 pub mod ShownCallLaws
 pub mod ShownProofs
 pub mod ShownMarkedProofs

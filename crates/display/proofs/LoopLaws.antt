@@ -69,6 +69,11 @@ odd_is first k e =
     let h : first + k + 3 ≡ first + (k + 1 + 2) = omega arith in
     rw (ne_eqb ((k + 1) % 2) 0 (λ i. omega arith), f, g, h)
 
+pub put_even : (first : ℕ) {n : ℕ} {d : List ℕ} {at : ℕ} {out : List ℕ} {to k : ℕ} → Putting 1 first n d at out to k → k % 2 ≡ 0
+    → k < n → (l : List ℕ) → l ≡ sets out to ((first + k) ∷ (first + k + 1) ∷ (first + k + 2) ∷ [])
+    → Putting 1 first n d at l (to + 3) (k + 1)
+put_even first {k} i e h l f = put 1 first i h l _ f (even_is first k e)
+
 -- ---- a record by its mode
 
 pub threes_same : (first n : ℕ) → each (point_after first) (3 * n) ≡ each (corners_from 0 first) n

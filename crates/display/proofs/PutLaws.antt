@@ -52,10 +52,11 @@ module _ {words d out : List ℕ} {to i : ℕ} (p : Putting words d out to i) wh
     putting_room m = omega (arith, p.left, p.long, rest_long p.fives h r e, m)
 
     pub putting_on : (out' : List ℕ) (to' : ℕ) → to' ≡ to + length (record_triangles r)
-        → out' ≡ sets out to (record_triangles r) → Putting words d out' to' (i + 5)
+        → out' ≡ sets out to (record_triangles r) → (k : ℕ) → k ≡ i + 5 → Putting words d out' to' k
     unfolding triangles_of
-    putting_on out' to' f g =
-        record {
+    putting_on out' to' f g k n =
+        rw n
+        (record {
           fives = fives_on p.fives h;
           usable = usable_both.1;
           long = ap length g ∙ length-sets out to (record_triangles r) ∙ p.long;
@@ -65,7 +66,7 @@ module _ {words d out : List ℕ} {to i : ℕ} (p : Putting words d out to i) wh
               ∙ sym (sets-after (record_triangles r) (triangles_of (records_in (drop (i + 5) words))) out to to' (sym f))
               ∙ sym (ap (λ (l : List Record). sets out to (triangles_of l)) (rest p.fives h r e))
               ∙ p.same;
-        }
+        })
 
   pub putting_end : length words ≤ i → out ≡ sets d 0 (triangles_of (records_in words))
   unfolding triangles_of

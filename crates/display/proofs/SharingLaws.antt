@@ -1,11 +1,11 @@
 -- What the tests of the call tell: 26, or the shares. Assumes nothing.
-use Prim.Native.Nat.{ℕ, ◌≤◌, ◌<◌}
+use Prim.Native.Nat.{ℕ, ◌≤◌}
 use mathlib.Core.Path.{◌≡◌, refl}
 use mathlib.Core.List.{List}
 use mathlib.Core.Bool.{Bool, true, false, cond, ◌&&◌}
 use lib.Dec.{leb, ltb}
 use lib.ListN.{length}
-use borrow.Author.Tests.{le-leb, lt-leb, lt-ltb, le-ltb, leb-true, ltb-true}
+use borrow.Author.Tests.{le-leb, lt-ltb, leb-true, ltb-true}
 use Rattle.bits.specs.Verdict.{accepted, declined}
 use Rattle.bits.proofs.VerdictLaws.{both_true}
 use Rattle.payload.specs.Lent.{in_items, answer_for}
@@ -15,34 +15,13 @@ use Rattle.display.specs.TurnLaws.{Shareable, SharingExactly}
 use Rattle.display.proofs.ShownListLaws.{below_told, below_yes}
 
 module _ (p : ℕ) (ws : List ℕ) where
-  pub no_window : length ws < 1 → sharing p ws ≡ declined 26
-  unfolding sharing shareable
-  no_window h = rw (lt-leb 1 (length ws) h)
+  pub not_shared : shareable p ws ≡ false → sharing p ws ≡ declined 26
+  unfolding sharing
+  not_shared e = rw e
 
-  module _ (some : 1 ≤ length ws) where
-    pub many_windows : 8 < length ws → sharing p ws ≡ declined 26
-    unfolding sharing shareable
-    many_windows h = rw (le-leb 1 (length ws) some, lt-leb (length ws) 8 h)
-
-    module _ (few : length ws ≤ 8) where
-      pub many_points : 1000000 ≤ p → sharing p ws ≡ declined 26
-      unfolding sharing shareable
-      many_points h = rw (le-leb 1 (length ws) some, le-leb (length ws) 8 few, le-ltb p 1000000 h)
-
-      module _ (small : p < 1000000) where
-        pub great_wish : all_below 1000000 ws ≡ false → sharing p ws ≡ declined 26
-        unfolding sharing shareable
-        great_wish h = rw (le-leb 1 (length ws) some, le-leb (length ws) 8 few, lt-ltb p 1000000 small, h)
-
-        pub shares_made : all_below 1000000 ws ≡ true → sharing p ws ≡ accepted (shared p ws)
-        unfolding sharing shareable
-        shares_made h = rw (le-leb 1 (length ws) some, le-leb (length ws) 8 few, lt-ltb p 1000000 small, h)
-
--- ---- exactly these are shared out
-
-module _ (p : ℕ) (ws : List ℕ) where
-  made : Shareable p ws → sharing p ws ≡ accepted (shared p ws)
-  made s = shares_made p ws s.some s.few s.points (below_yes 1000000 ws s.each_wish)
+  pub shares_made : shareable p ws ≡ true → sharing p ws ≡ accepted (shared p ws)
+  unfolding sharing
+  shares_made e = rw e
 
   told : shareable p ws ≡ true → Shareable p ws
   unfolding shareable
@@ -57,9 +36,21 @@ module _ (p : ℕ) (ws : List ℕ) where
         each_wish = below_told 1000000 ws a.1;
       }
 
+  pub shareable_told : shareable p ws ≡ true → (length ws ≤ 8) × (all_below 1000000 ws ≡ true)
+  shareable_told e = let t = told e in (t.few, below_yes 1000000 ws t.each_wish)
+
+-- ---- exactly these are shared out
+
+module _ (p : ℕ) (ws : List ℕ) where
+  made : Shareable p ws → sharing p ws ≡ accepted (shared p ws)
+  unfolding shareable
+  made s =
+      shares_made p ws
+      (rw (le-leb 1 (length ws) s.some, le-leb (length ws) 8 s.few, lt-ltb p 1000000 s.points, below_yes 1000000 ws s.each_wish))
+
   twenty_six : (Shareable p ws → ⊥) → sharing p ws ≡ declined 26
   unfolding sharing
-  twenty_six n = go (shareable p ws) (λ e. n (told e))
+  twenty_six n = go (shareable p ws) (λ e. n (told p ws e))
     where
       go : (b : Bool) → (b ≡ true → ⊥) → cond b (accepted (shared p ws)) (declined 26) ≡ declined 26
       go true h = absurd (h refl)

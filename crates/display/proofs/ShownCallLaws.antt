@@ -6,7 +6,10 @@ use mathlib.Core.Bool.{Bool, true, false, cond, ◌&&◌}
 use native.Mathlib.Numerals.{add-one}
 use native.Mathlib.Omega.{arith}
 use lib.ListN.{length, take, drop, set, length-append}
-use lib.Seq.{sets, sets-eq, slice, length-slice, set_split, append_snoc, take-take}
+use lib.Seq.{set_split, append_snoc, take-take}
+use Rattle.std.specs.List.{copy_within}
+use Rattle.std.specs.Prelude.{Ok}
+use Rattle.std.proofs.lemmas.Slice.{between_is}
 use borrow.Author.Tests.{lt-ltb, le-ltb, ltb-true}
 use Rattle.bits.specs.Refusals.{among}
 use Rattle.bits.specs.Verdict.{Verdict, accepted, declined}
@@ -18,10 +21,11 @@ use Rattle.display.specs.ShownRules.{Request, showing, hiding, is_record, points
 use Rattle.display.specs.ShownRules.{shown_last, taken_out_of, ruled, changed}
 use Rattle.display.specs.ShownKept.{shown_numbers, shown_usable, called, change_says, keeping, shown_after}
 use Rattle.display.specs.ShownLaws.{UsableShown}
-use Rattle.display.specs.InternalShown.{judged, refusal}
+use Rattle.display.specs.InternalShown.{judged, refused}
 use Rattle.display.specs.declared.shown.Shown.{Shown}
 use Rattle.display.specs.declared.shown.ShownAnswer.{ShownAnswer}
-use Rattle.display.specs.declared.shown.Change.TheVariants as A
+use Rattle.bits.specs.Says.{number_of}
+use Rattle.bits.specs.declared.refusals.Refusal.{Refusal}
 use Rattle.display.proofs.ShownListLaws.{among_there, among_nowhere, without_there, length_without}
 use Rattle.display.proofs.ShownListLaws.{points_snoc, points_without}
 use Rattle.display.proofs.ShownSumLaws.{usable_told, shown_length}
@@ -46,24 +50,24 @@ module _ (words : List ℕ) (s : Shown) (n : ℕ) where
   unfolding judged
   judged_place e g = rw (e, g)
 
-  unusable : (v : Verdict (List ℕ)) → declined 19 ≡ judged words s n
-      → cond (shown_usable words s) (cond (is_record words n) v (declined 19)) (declined 19) ≡ declined 19
+  unusable : (v : Verdict (List ℕ)) (k : ℕ) → declined k ≡ judged words s n
+      → cond (shown_usable words s) (cond (is_record words n) v (declined 19)) (declined 19) ≡ declined k
   unfolding judged
-  unusable v e = go (shown_usable words s) (is_record words n) e
+  unusable v k e = go (shown_usable words s) (is_record words n) e
     where
-      go : (a b : Bool) → declined 19 ≡ cond (a && b) (accepted (place_of n (shown_numbers s))) (declined 19)
-          → cond a (cond b v (declined 19)) (declined 19) ≡ declined 19
+      go : (a b : Bool) → declined k ≡ cond (a && b) (accepted (place_of n (shown_numbers s))) (declined 19)
+          → cond a (cond b v (declined 19)) (declined 19) ≡ declined k
       go true true e = clash (cc)
-      go true false e = refl
-      go false b e = refl
+      go true false e = let z : 19 ≡ k = cc e in ap declined z
+      go false b e = let z : 19 ≡ k = cc e in ap declined z
 
-  pub show_unusable : declined 19 ≡ judged words s n → called words s (showing n) ≡ declined 19
+  pub show_unusable : (k : ℕ) → declined k ≡ judged words s n → called words s (showing n) ≡ declined k
   unfolding called ruled
-  show_unusable e = unusable (shown_last (shown_numbers s) n) e
+  show_unusable k e = unusable (shown_last (shown_numbers s) n) k e
 
-  pub hide_unusable : declined 19 ≡ judged words s n → called words s (hiding n) ≡ declined 19
+  pub hide_unusable : (k : ℕ) → declined k ≡ judged words s n → called words s (hiding n) ≡ declined k
   unfolding called ruled
-  hide_unusable e = unusable (taken_out_of (shown_numbers s) n) e
+  hide_unusable k e = unusable (taken_out_of (shown_numbers s) n) k e
 
   module _ (t : shown_usable words s ≡ true) (k : is_record words n ≡ true) where
     pub show_called : called words s (showing n) ≡ shown_last (shown_numbers s) n
@@ -101,98 +105,101 @@ module _ (words : List ℕ) (s : Shown) (n : ℕ) where
 
 -- what a call answers
 abbrev pub Answered : List ℕ → Shown → Request → ShownAnswer → Type 0
-Answered words s q r = (change_says r.answer ≡ changed (called words s q)) × (r.shown ≡ shown_after words s q)
+Answered words s q r =
+    record { answer : change_says r.answer ≡ changed (called words s q); list : r.shown ≡ shown_after words s q }
 
 module _ (words : List ℕ) (s : Shown) (q : Request) where
-  pub refused : (k : ℕ) (r : ShownAnswer) → r ≡ refusal k s → called words s q ≡ declined k → Answered words s q r
-  refused k r e d = rw (e, d) (refl, refl)
+  pub refused_call : (k : Refusal) (r : ShownAnswer) → r ≡ refused k s → called words s q ≡ declined (number_of k)
+      → Answered words s q r
+  refused_call k r e d = rw (e, d) (record { answer = refl; list = refl })
 
   -- a change: the three parts of what is handed back
   done : (l ns : List ℕ) (n t : ℕ) → called words s q ≡ accepted l → ns ≡ l onto s.entries → n ≡ length l
       → t ≡ points_of_all words l
-      → Answered words s q (record { answer = A.Changed; shown = record { entries = ns; count = n; total = t } })
+      → Answered words s q (record { answer = Ok tt; shown = record { entries = ns; count = n; total = t } })
   unfolding keeping
-  done l ns n t e f g h = (rw e, rw (e, f, g, h))
+  done l ns n t e f g h = record { answer = rw e; list = rw (e, f, g, h) }
 
 -- r is the number's place, as the code finds it, and the array has 64 entries
-module _ {words : List ℕ} {s : Shown} {n r : ℕ} (K : Known words s n r) (long : length s.entries ≡ 64) where
-  pub counted : length (shown_numbers s) ≡ s.count
-  counted = shown_length words s K.usable long
+module _ (words : List ℕ) (s : Shown) (n : ℕ) {r : ℕ} (e : accepted r ≡ judged words s n) (long : length s.entries ≡ 64)
+  where
+    K : Known words s n r
+    K = known words s n r e
 
-  there : r < s.count → among n (shown_numbers s) ≡ true
-  there h = let e = K.place in among_there n (shown_numbers s) (omega (arith, counted))
+    pub counted : length (shown_numbers s) ≡ s.count
+    counted = shown_length words s K.usable long
 
-  nowhere : s.count ≤ r → among n (shown_numbers s) ≡ false
-  nowhere h = let e = K.place in among_nowhere n (shown_numbers s) (omega (arith, counted))
+    there : r < s.count → among n (shown_numbers s) ≡ true
+    there h = let e = K.place in among_there n (shown_numbers s) (omega (arith, counted))
 
-  shows : called words s (showing n) ≡ shown_last (shown_numbers s) n
-  shows = show_called words s n K.tested K.number
+    nowhere : s.count ≤ r → among n (shown_numbers s) ≡ false
+    nowhere h = let e = K.place in among_nowhere n (shown_numbers s) (omega (arith, counted))
 
-  hides : called words s (hiding n) ≡ taken_out_of (shown_numbers s) n
-  hides = hide_called words s n K.tested K.number
+    shows : called words s (showing n) ≡ shown_last (shown_numbers s) n
+    shows = show_called words s n K.tested K.number
 
-  pub shown_already : r < s.count → called words s (showing n) ≡ declined 19
-  shown_already h = shows ∙ rw (there h)
+    hides : called words s (hiding n) ≡ taken_out_of (shown_numbers s) n
+    hides = hide_called words s n K.tested K.number
 
-  module _ (h : s.count ≤ r) where
-    pub full : 64 ≤ s.count → called words s (showing n) ≡ declined 21
-    full k = shows ∙ rw (nowhere h, le-ltb (length (shown_numbers s)) 64 (omega (arith, counted)))
+    pub shown_already : r < s.count → called words s (showing n) ≡ declined 19
+    shown_already h = shows ∙ rw (there h)
 
-    shown_last_law : s.count < 64 → called words s (showing n) ≡ accepted (shown_numbers s ++ (n ∷ []))
-    shown_last_law k = shows ∙ rw (nowhere h, lt-ltb (length (shown_numbers s)) 64 (omega (arith, counted)))
+    module _ (h : s.count ≤ r) where
+      pub full : 64 ≤ s.count → called words s (showing n) ≡ declined 21
+      full k = shows ∙ rw (nowhere h, le-ltb (length (shown_numbers s)) 64 (omega (arith, counted)))
 
-    pub not_shown : called words s (hiding n) ≡ declined 20
-    not_shown = hides ∙ rw (nowhere h)
+      shown_last_law : s.count < 64 → called words s (showing n) ≡ accepted (shown_numbers s ++ (n ∷ []))
+      shown_last_law k = shows ∙ rw (nowhere h, lt-ltb (length (shown_numbers s)) 64 (omega (arith, counted)))
 
-    -- t is the total that the code works out
-    pub show_done : s.count < 64 → (t : ℕ) → t ≡ s.total + points_of words n
-        → Answered words s (showing n)
-        (record {
-          answer = A.Changed;
-          shown =
-              record { entries = set s.entries s.count n; count = s.count + 1; total = t };
-        })
-    show_done k t e =
-        let l = shown_numbers s ++ (n ∷ []) in
-        let z = counted in
-        let m : length l ≡ suc s.count = length-append (shown_numbers s) (n ∷ []) ∙ omega arith in
-        done words s (showing n) l _ _ _ (shown_last_law k)
-        (set_split s.entries s.count n (omega arith)
-        ∙ sym (append_snoc (shown_numbers s) n (drop (suc s.count) s.entries))
-        ∙ ap (λ (j : ℕ). l ++ drop j s.entries) (sym m))
-        (omega arith)
-        (omega (arith, points_snoc words (shown_numbers s) n, K.usable.total))
+      pub not_shown : called words s (hiding n) ≡ declined 20
+      not_shown = hides ∙ rw (nowhere h)
 
-  module _ (h : r < s.count) where
-    taken_out : called words s (hiding n) ≡ accepted (without n (shown_numbers s))
-    taken_out = hides ∙ rw (there h)
+      -- t is the total that the code works out
+      pub show_done : s.count < 64 → (t : ℕ) → t ≡ s.total + points_of words n
+          → Answered words s (showing n)
+          (record {
+            answer = Ok tt;
+            shown =
+                record { entries = set s.entries s.count n; count = s.count + 1; total = t };
+          })
+      show_done k t e =
+          let l = shown_numbers s ++ (n ∷ []) in
+          let z = counted in
+          let m : length l ≡ suc s.count = length-append (shown_numbers s) (n ∷ []) ∙ omega arith in
+          done words s (showing n) l _ _ _ (shown_last_law k)
+          (set_split s.entries s.count n (omega arith)
+          ∙ sym (append_snoc (shown_numbers s) n (drop (suc s.count) s.entries))
+          ∙ ap (λ (j : ℕ). l ++ drop j s.entries) (sym m))
+          (omega arith)
+          (omega (arith, points_snoc words (shown_numbers s) n, K.usable.total))
 
-    -- the numbers that stay, as the code moves them up
-    stay : without n (shown_numbers s) ≡ take r s.entries ++ slice (r + 1) s.count s.entries
-    stay =
-        without_there n (shown_numbers s)
-        ∙ rw (← K.place)
-        (ap₂ (λ (a b : List ℕ). a ++ b) (take-take r s.count s.entries (omega arith)) (rw add-one))
+    module _ (h : r < s.count) where
+      taken_out : called words s (hiding n) ≡ accepted (without n (shown_numbers s))
+      taken_out = hides ∙ rw (there h)
 
-    pub hide_total : s.total ≡ points_of words n + points_of_all words (without n (shown_numbers s))
-    hide_total = K.usable.total ∙ points_without words n (shown_numbers s) (there h)
+      -- the numbers that stay, as the code moves them up
+      stay : without n (shown_numbers s) ≡ take r s.entries ++ take (s.count - (r + 1)) (drop (r + 1) s.entries)
+      stay =
+          without_there n (shown_numbers s)
+          ∙ rw (← K.place)
+          (ap₂ (λ (a b : List ℕ). a ++ b) (take-take r s.count s.entries (omega arith))
+          (rw add-one (sym (between_is s.entries (suc r) s.count))))
 
-    pub hide_done : (l : List ℕ) → l ≡ sets s.entries r (slice (r + 1) s.count s.entries)
-        → (t : ℕ) → t ≡ s.total - points_of words n
-        → Answered words s (hiding n)
-        (record {
-          answer = A.Changed;
-          shown = record { entries = l; count = s.count - 1; total = t };
-        })
-    hide_done l f t e =
-        let z = counted in
-        let m = length_without n (shown_numbers s) (there h) in
-        let few = K.usable.few in
-        let moved = slice (r + 1) s.count s.entries in
-        let d = length-slice (r + 1) s.count s.entries (omega arith) in
-        let k : r + length moved ≡ length (without n (shown_numbers s)) = omega arith in
-        done words s (hiding n) (without n (shown_numbers s)) _ _ _ taken_out
-        (f ∙ sets-eq moved s.entries r (omega arith)
-        ∙ ap₂ (λ (a : List ℕ) (j : ℕ). a ++ drop j s.entries) (sym stay) k)
-        (omega arith)
-        (omega (arith, hide_total))
+      pub hide_total : s.total ≡ points_of words n + points_of_all words (without n (shown_numbers s))
+      hide_total = K.usable.total ∙ points_without words n (shown_numbers s) (there h)
+
+      pub hide_done : (l : List ℕ) → l ≡ copy_within s.entries (r + 1) s.count r → (t : ℕ) → t ≡ s.total - points_of words n
+          → Answered words s (hiding n)
+          (record {
+            answer = Ok tt;
+            shown = record { entries = l; count = s.count - 1; total = t };
+          })
+      hide_done l f t e =
+          let z = counted in
+          let m = length_without n (shown_numbers s) (there h) in
+          let k : r + (s.count - (r + 1)) ≡ length (without n (shown_numbers s)) = omega arith in
+          done words s (hiding n) (without n (shown_numbers s)) _ _ _ taken_out
+          (f
+          ∙ ap₂ (λ (a : List ℕ) (j : ℕ). a ++ drop j s.entries) (sym stay) k)
+          (omega arith)
+          (omega (arith, hide_total))

@@ -1,38 +1,45 @@
 -- Lists of record numbers: where a number stands, one more at the end, one taken out, and the points of all. Assumes
 -- nothing.
-use Prim.Native.Nat.{ℕ, suc, ◌+◌, ◌-◌, ◌*◌, ◌^◌, ◌≤◌, ◌<◌}
-use mathlib.Core.Path.{◌≡◌, refl, sym, ap, ◌∙◌}
+use Prim.Native.Nat.{ℕ, suc, ◌+◌, ◌*◌, ◌^◌, ◌≤◌, ◌<◌}
+use mathlib.Core.Path.{◌≡◌, refl, sym, ap}
 use mathlib.Core.List.{List, [], ◌∷◌, ◌++◌}
 use mathlib.Core.Bool.{Bool, true, false, cond, not, ◌||◌}
 use native.Mathlib.Omega.{arith}
 use lib.Dec.{ltb, eqb}
-use lib.ListN.{length, get_or, take, drop, length-drop}
-use lib.Seq.{take_all}
+use lib.ListN.{length, take, drop}
 use borrow.Author.Tests.{eq-eqb, ne_eqb, eqb-true, eqb-false, lt-ltb, ltb-true, not-true}
+use Rattle.std.proofs.Common.{Option}
+use Rattle.std.specs.List.{list_any, AllWithin, HoldsAt}
+use Rattle.std.specs.Option.{MatchOption, unwrap_or}
+use Rattle.std.proofs.lemmas.Iterator.{index_from_first}
 use Rattle.bits.specs.Refusals.{among}
 use Rattle.bits.proofs.VerdictLaws.{both_true, clash}
 use Rattle.payload.specs.Firsts.{Distinct, Below, place_of}
 use Rattle.payload.specs.MeshWrite.{all_below, all_of}
 use Rattle.payload.proofs.FirstsLaws.{or_no, or_yes}
-use Rattle.payload.proofs.PutRunLaws.{rest-cons, rest-none}
 use Rattle.payload.proofs.RowLaws.{cond_inv, not_so}
 use Rattle.display.specs.ShownRules.{points_of, points_of_all, without}
 use Rattle.display.specs.ShownKept.{distinct}
 
 -- ---- where a number stands
 
-module _ (n : ℕ) (l : List ℕ) (i : ℕ) where
-  pub place_here : i < length l → get_or l i 0 ≡ n → place_of n (drop i l) ≡ 0
-  unfolding place_of
-  place_here h e = rw (rest-cons l i h, eq-eqb n (get_or l i 0) (sym e))
+eqb_swap : (m n : ℕ) → eqb m n ≡ eqb n m
+eqb_swap m n = grind arith
 
-  pub place_on : i < length l → (get_or l i 0 ≡ n → ⊥) → place_of n (drop i l) ≡ suc (place_of n (drop (i + 1) l))
+-- as the code looks for it
+module _ (n : ℕ) where
+  pub place_first : (l : List ℕ) (r : Option ℕ)
+      → MatchOption r (AllWithin (λ m. m ≡ n → ⊥) l 0 (length l))
+      (λ i. (i < length l) × HoldsAt (λ m. m ≡ n) l i × AllWithin (λ m. m ≡ n → ⊥) l 0 i)
+      → place_of n l ≡ unwrap_or r (length l)
   unfolding place_of
-  place_on h e = rw (rest-cons l i h, ne_eqb n (get_or l i 0) (λ z. e (sym z)))
+  place_first l r f =
+      index_from_first (place_of n) (λ m. m ≡ n) (λ m. m ≡ n → ⊥) refl (λ m k e. rw (eq-eqb n m (sym e)))
+      (λ m k e. rw (ne_eqb n m (λ z. e (sym z))) (omega arith)) l r f
 
-  pub place_end : length l ≤ i → place_of n (drop i l) ≡ 0
-  unfolding place_of
-  place_end h = rw (rest-none l i h)
+  pub among_is : (l : List ℕ) → list_any (λ (m : ℕ). eqb m n) l ≡ among n l
+  among_is [] = refl
+  among_is (m ∷ l) = rw (eqb_swap m n, among_is l)
 
 pub among_there : (n : ℕ) (l : List ℕ) → place_of n l < length l → among n l ≡ true
 unfolding place_of
@@ -53,17 +60,6 @@ among_nowhere n (m ∷ l) h = go (eqb n m) h (among_nowhere n l)
         → (b || among n l) ≡ false
     go true h r = absurd (omega arith)
     go false h r = r (omega arith)
-
--- as the code finds out, in the part of a list from a place on
-module _ (n r j : ℕ) (l : List ℕ) (e : r ≡ place_of n (take (length l - j) (drop j l))) where
-  whole : take (length l - j) (drop j l) ≡ drop j l
-  whole = take_all (length l - j) (drop j l) (omega (arith, length-drop j l))
-
-  pub rest_has : r < length (take (length l - j) (drop j l)) → among n (drop j l) ≡ true
-  rest_has h = ap (among n) (sym whole) ∙ among_there n (take (length l - j) (drop j l)) (omega arith)
-
-  pub rest_lacks : length (take (length l - j) (drop j l)) ≤ r → among n (drop j l) ≡ false
-  rest_lacks h = ap (among n) (sym whole) ∙ among_nowhere n (take (length l - j) (drop j l)) (omega arith)
 
 -- the list without it, by its place
 pub without_there : (n : ℕ) (l : List ℕ) → without n l ≡ take (place_of n l) l ++ drop (suc (place_of n l)) l

@@ -204,14 +204,14 @@ module _ (words : List ℕ) (s : Shown) where
       go false e = e
 
   list : (UsableShown words s → ⊥) → (q : Request) → called words s q ≡ declined 19
-  list h (showing n) = show_unusable words s n (judged_list words s n (unusable h))
-  list h (hiding n) = hide_unusable words s n (judged_list words s n (unusable h))
+  list h (showing n) = show_unusable words s n 19 (judged_list words s n (unusable h))
+  list h (hiding n) = hide_unusable words s n 19 (judged_list words s n (unusable h))
 
   show_no_record : (n : ℕ) → length (records_in words) ≤ n → called words s (showing n) ≡ declined 19
-  show_no_record n h = show_unusable words s n (judged_number words s n (le-ltb n (length (records_in words)) h))
+  show_no_record n h = show_unusable words s n 19 (judged_number words s n (le-ltb n (length (records_in words)) h))
 
   hide_no_record : (n : ℕ) → length (records_in words) ≤ n → called words s (hiding n) ≡ declined 19
-  hide_no_record n h = hide_unusable words s n (judged_number words s n (le-ltb n (length (records_in words)) h))
+  hide_no_record n h = hide_unusable words s n 19 (judged_number words s n (le-ltb n (length (records_in words)) h))
 
   number : UsableShown words s → (n : ℕ) → n < length (records_in words) → EachNumber words s n
   number u n h =

@@ -65,11 +65,11 @@ module _ (words : List ℕ) (s : Shown) where
         let y : t ≡ p = omega arith in
         rw (y, le-leb s.count 64 h, q.0)
 
-    pub usable_none : declined 19 ≡ summed_from words 0 (shown_numbers s) → false ≡ shown_usable words s
+    pub usable_none : (k : ℕ) → declined k ≡ summed_from words 0 (shown_numbers s) → false ≡ shown_usable words s
     unfolding shown_usable summed_from
-    usable_none e = rw (le-leb s.count 64 h) (go (record_numbers words (shown_numbers s)) (sym e))
+    usable_none k e = rw (le-leb s.count 64 h) (go (record_numbers words (shown_numbers s)) (sym e))
       where
-        go : (b : Bool) → cond b (accepted (0 + points_of_all words (shown_numbers s))) (declined 19) ≡ declined 19
+        go : (b : Bool) → cond b (accepted (0 + points_of_all words (shown_numbers s))) (declined 19) ≡ declined k
             → false ≡ (b && eqb s.total (points_of_all words (shown_numbers s)))
         go true e = clash (cc)
         go false e = refl

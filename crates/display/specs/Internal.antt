@@ -1,9 +1,9 @@
 -- What the contracts of private functions cite. No promise of a public call leans on these.
-use Rattle.std.specs.Prelude.{ℕ, ◌+◌, ◌<◌, List, [], ◌∷◌, get_or}
-use Rattle.bits.specs.Verdict.{Verdict, accepted, declined}
+use Rattle.std.specs.Prelude.{ℕ, ◌+◌, ◌<◌, List, [], ◌∷◌, get_or, Result}
+use Rattle.bits.specs.Verdict.{Verdict}
 use Rattle.payload.specs.declared.mesh.records.Record.{Record}
-use Rattle.display.specs.declared.triangulation.Measured.{Measured}
-use Rattle.display.specs.declared.triangulation.Measured.TheVariants as M
+use Rattle.bits.specs.Says.{says}
+use Rattle.bits.specs.declared.refusals.Refusal.{Refusal}
 
 -- the five words from word i on
 abbrev pub record_at : List ℕ → ℕ → Record
@@ -24,6 +24,5 @@ point_after first i = (first + i) ∷ []
 abbrev pub Numbered : ℕ → ℕ → Type 0
 Numbered first n = (k : ℕ) → k < n → first + (k + 2) < 4294967295
 
-abbrev pub measured_says : Measured → Verdict ℕ
-measured_says (M.Numbers n) = accepted n
-measured_says M.Unusable = declined 15
+abbrev pub measured_says : Result ℕ Refusal → Verdict ℕ
+measured_says r = says (λ n. n) r

@@ -1,6 +1,6 @@
 -- The list as `show` and `hide` are handed it, with its total: what may be handed in, what is said, and what is handed
 -- back.
-use Rattle.std.specs.Prelude.{ℕ, List, [], ◌∷◌, Bool, true, cond, not, ◌&&◌, leb, eqb, length, take, replicate}
+use Rattle.std.specs.Prelude.{ℕ, List, [], ◌∷◌, Bool, true, cond, not, ◌&&◌, leb, eqb, length, take, replicate, Result}
 use Rattle.bits.specs.Refusals.{among}
 use Rattle.bits.specs.Verdict.{Verdict, accepted, needs, declined}
 use Rattle.payload.specs.Lent.{◌onto◌}
@@ -8,8 +8,8 @@ use Rattle.payload.specs.MeshWrite.{all_below}
 use Rattle.payload.specs.Records.{records_in}
 use Rattle.display.specs.ShownRules.{Request, points_of_all, ruled, changed}
 use Rattle.display.specs.declared.shown.Shown.{Shown}
-use Rattle.display.specs.declared.shown.Change.{Change}
-use Rattle.display.specs.declared.shown.Change.TheVariants as A
+use Rattle.bits.specs.Says.{says}
+use Rattle.bits.specs.declared.refusals.Refusal.{Refusal}
 
 -- the numbers at the front of the array
 abbrev pub shown_numbers : Shown → List ℕ
@@ -38,9 +38,8 @@ shown_usable words s =
 unfoldable pub called : List ℕ → Shown → Request → Verdict (List ℕ)
 called words s q = cond (shown_usable words s) (ruled words (shown_numbers s) q) (declined 19)
 
-abbrev pub change_says : Change → Verdict (Unit {0})
-change_says A.Changed = accepted tt
-change_says (A.Declined k) = declined k
+abbrev pub change_says : Result (Unit {0}) Refusal → Verdict (Unit {0})
+change_says r = says (λ u. u) r
 
 -- numbers kept: at the front of the array, with all behind them as it was, and their points' total
 unfoldable pub keeping : List ℕ → Shown → List ℕ → Shown

@@ -12,7 +12,7 @@ mod shown;
 mod triangulation;
 
 pub use shares::share_points;
-pub use shown::{Change, Shown, ShownAnswer, hide, none_shown, show};
+pub use shown::{Shown, ShownAnswer, hide, none_shown, show};
 pub use triangulation::triangles;
 
 // The record whose first word is records[at].

@@ -4,9 +4,10 @@ ghost use Rattle.std.proofs.lemmas.List.Edits.{sets};
 ghost use Rattle.payload.specs.MeshWrite.{all_below};
 ghost use Rattle.payload.specs.Fill.{filled_says};
 ghost use Rattle.payload.specs.Lent.{in_items, answer_for, buffers_after, at_entry};
-ghost use Rattle.display.specs.Turns.{after_turn, shared, sharing};
+ghost use Rattle.display.specs.Turns.{after_turn, shared, shareable, sharing};
 ghost use Rattle.display.specs.InternalLevels.{up_to, unmet_at, lowest_above};
 
+use bits::{FillError, Refusal};
 use payload::Filled;
 
 // How many wishes are above a level.
@@ -14,31 +15,17 @@ fn unmet(wishes: &[u32], level: u32) -> u32
     requires { length wishes.now ≤ 8 }
     ensures { result ≡ unmet_at level wishes.now }
 {
-    let mut count = 0;
-    let mut i = 0;
-    while i < wishes.len() {
-        let wish = wishes[i];
-        i += 1;
-        if level < wish {
-            count += 1;
-        }
-    }
-    count
+    wishes.iter().filter(|wish| level < **wish).count() as u32
 }
 
 // The lowest wish above a level; 1,000,000 where there is none.
 fn lowest(wishes: &[u32], level: u32) -> u32
     ensures { result ≡ lowest_above level wishes.now }
 {
-    let mut low = 1_000_000;
-    let mut i = 0;
-    while i < wishes.len() {
-        let wish = wishes[i];
-        i += 1;
-        if level < wish {
-            if wish < low {
-                low = wish;
-            }
+    let mut low: u32 = 1_000_000;
+    for wish in wishes {
+        if level < *wish {
+            low = low.min(*wish);
         }
     }
     low
@@ -59,6 +46,7 @@ fn level_of(points: u32, wishes: &[u32]) -> Level
 {
     let mut height = 0;
     let mut left = points;
+    // no index is counted here: a round goes to the next wish by height, wherever it stands in the list
     loop {
         let takers = unmet(wishes, height);
         if takers == 0 {
@@ -85,18 +73,15 @@ fn deal(height: u32, points: u32, wishes: &[u32], shares: &mut [u32])
         (after_turn points wishes.now (up_to height wishes.now)) }
 {
     let mut left = points;
-    let mut i = 0;
-    while i < wishes.len() {
-        let wish = wishes[i];
+    for (i, wish) in wishes.iter().enumerate() {
         let mut share = height;
-        if wish <= height {
-            share = wish;
+        if *wish <= height {
+            share = *wish;
         } else if 0 < left {
             share += 1;
             left -= 1;
         }
         shares[i] = share;
-        i += 1;
     }
 }
 
@@ -104,13 +89,14 @@ fn deal(height: u32, points: u32, wishes: &[u32], shares: &mut [u32])
 fn all_in_range(numbers: &[u32]) -> bool
     ensures { result ≡ all_below 1000000 numbers.now }
 {
-    let mut above = false;
-    let mut i = 0;
-    while i < numbers.len() {
-        above = above | (1_000_000 <= numbers[i]);
-        i += 1;
-    }
-    !above
+    numbers.iter().all(|number| *number < 1_000_000)
+}
+
+// One to eight windows, and every number below a million.
+fn shareable(points: u32, wishes: &[u32]) -> bool
+    ensures { result ≡ shareable points wishes.now }
+{
+    1 <= wishes.len() && wishes.len() <= 8 && points < 1_000_000 && all_in_range(wishes)
 }
 
 // Shares points out among wishes, at the front of a buffer: 26, then 12.
@@ -121,22 +107,13 @@ pub fn share_points(points: u32, wishes: &[u32], shares: &mut [u32]) -> Filled
         ≡ buffers_after (in_items 1 (sharing points wishes.now)) (at_entry (shares ∷ [])) }
 {
     let windows = wishes.len();
-    if windows < 1 {
-        return Filled::Declined(26);
-    }
-    if 8 < windows {
-        return Filled::Declined(26);
-    }
-    if 1_000_000 <= points {
-        return Filled::Declined(26);
-    }
-    if !all_in_range(wishes) {
-        return Filled::Declined(26);
+    if !shareable(points, wishes) {
+        return Err(FillError::Refused(Refusal::Shares));
     }
     if shares.len() < windows {
-        return Filled::Needs(windows);
+        return Err(FillError::Needs(windows));
     }
     let level = level_of(points, wishes);
     deal(level.height, level.left, wishes, shares);
-    Filled::Count(windows)
+    Ok(windows)
 }

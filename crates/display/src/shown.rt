@@ -1,17 +1,18 @@
 // Submeshes shown and hidden: the numbers of the records that are shown, in the order they were shown, and the total
 // of their points. The list goes from call to call by value, and each call judges it whole before it changes it.
-ghost use Rattle.std.specs.Prelude.{◌≡◌, ◌+◌, ◌≤◌, ◌<◌, length};
-ghost use Rattle.std.proofs.lemmas.List.Edits.{sets};
-ghost use Rattle.std.proofs.Math.Seq.{slice};
+ghost use Rattle.std.specs.Prelude.{◌≡◌, ◌≤◌, ◌<◌, length};
+ghost use Rattle.bits.specs.Refusals.{among};
 ghost use Rattle.payload.specs.Firsts.{place_of};
 ghost use Rattle.payload.specs.Records.{records_in};
 ghost use Rattle.display.specs.ShownRules.{showing, hiding, is_record, points_of, changed};
-ghost use Rattle.display.specs.ShownKept.{none_shown, shown_usable, called, change_says, shown_after};
-ghost use Rattle.display.specs.InternalShown.{summed_from, sum_says, judged, judged_says, refusal};
+ghost use Rattle.display.specs.ShownKept.{none_shown, shown_numbers, shown_usable, called, change_says, shown_after};
+ghost use Rattle.display.specs.InternalShown.{summed_from, sum_says, judged, judged_says, refused};
 
 use super::record_at;
+use bits::Refusal;
 
-// The numbers stand at the front of the array; what stands behind them is not looked at, and stays.
+// The numbers stand at the front of the array; what stands behind them is not looked at, and stays. An array with its
+// count, by value: so the C interface hands the list in and out.
 #[derive(Clone, Copy)]
 pub struct Shown {
     pub entries: [u32; 64],
@@ -19,31 +20,11 @@ pub struct Shown {
     pub total: u64,
 }
 
-#[derive(Clone, Copy)]
-pub enum Change {
-    Changed,
-    Declined(u8),
-}
-
-// What a call says, and the list that it hands back.
+// What a call says, and the list that it hands back: after a refusal, the one that was handed in.
 #[derive(Clone, Copy)]
 pub struct ShownAnswer {
-    pub answer: Change,
+    pub answer: Result<(), Refusal>,
     pub shown: Shown,
-}
-
-// The points of a list together, or that the list is refused with 19.
-#[derive(Clone, Copy)]
-enum Sum {
-    Points(u64),
-    Unusable,
-}
-
-// The place of a number in the list, the count where it is not shown, or that list or number are refused with 19.
-#[derive(Clone, Copy)]
-enum Judged {
-    Place(usize),
-    Unusable,
 }
 
 // ---- judging
@@ -65,73 +46,75 @@ fn points_of(records: &[u32], number: u32) -> u32
 fn place_of(list: &[u32], number: u32) -> usize
     ensures { result ≡ place_of number list.now }
 {
-    let mut i = 0;
-    while i < list.len() {
-        if list[i] == number {
-            return i;
-        }
-        i += 1;
-    }
-    i
+    list.iter()
+        .position(|shown| *shown == number)
+        .unwrap_or(list.len())
 }
 
-// The points of a list together, where it repeats no number and holds none that is no record.
-fn sum_of(list: &[u32], records: &[u32]) -> Sum
+fn among(list: &[u32], number: u32) -> bool
+    ensures { result ≡ among number list.now }
+{
+    list.contains(&number)
+}
+
+// The points of a list together: 19 where it repeats a number or holds one that is no record.
+fn sum_of(list: &[u32], records: &[u32]) -> Result<u64, Refusal>
     requires { length list.now ≤ 64 }
     ensures { sum_says result ≡ summed_from records.now 0 list.now }
 {
     let mut total: u64 = 0;
-    let mut i = 0;
-    while i < list.len() {
-        let number = list[i];
-        i += 1;
+    for (i, number) in list.iter().enumerate() {
+        if !is_record(records, *number) {
+            return Err(Refusal::ListOrNumber);
+        }
+        if among(&list[i + 1..], *number) {
+            return Err(Refusal::ListOrNumber);
+        }
+        total += points_of(records, *number) as u64;
+    }
+    Ok(total)
+}
+
+impl Shown {
+    fn numbers(&self) -> &[u32]
+        requires { self.now.count ≤ 64 }
+        ensures { result.now ≡ shown_numbers self.now }
+    {
+        &self.entries[..self.count as usize]
+    }
+
+    fn is_usable(&self, records: &[u32]) -> bool
+        ensures { result ≡ shown_usable records.now self.now }
+    {
+        if 64 < self.count {
+            return false;
+        }
+        match sum_of(self.numbers(), records) {
+            Ok(points) => self.total == points,
+            Err(_) => false,
+        }
+    }
+
+    // What both calls judge: 19 where the list is not usable or the number is no record, and else the number's place
+    // in the list, the count where it is not shown.
+    fn judge(&self, number: u32, records: &[u32]) -> Result<usize, Refusal>
+        ensures { judged_says result ≡ judged records.now self.now number }
+    {
+        if !self.is_usable(records) {
+            return Err(Refusal::ListOrNumber);
+        }
         if !is_record(records, number) {
-            return Sum::Unusable;
+            return Err(Refusal::ListOrNumber);
         }
-        let rest = &list[i..];
-        if place_of(rest, number) < rest.len() {
-            return Sum::Unusable;
-        }
-        total += points_of(records, number) as u64;
-    }
-    Sum::Points(total)
-}
-
-fn usable(shown: Shown, records: &[u32]) -> bool
-    ensures { result ≡ shown_usable records.now shown }
-{
-    let count = shown.count as usize;
-    if 64 < count {
-        return false;
-    }
-    let entries = shown.entries;
-    let total = shown.total;
-    match sum_of(&entries[..count], records) {
-        Sum::Points(points) => total == points,
-        Sum::Unusable => false,
+        Ok(place_of(self.numbers(), number))
     }
 }
 
-// What both calls judge: the list, then whether the number is a record.
-fn judge(shown: Shown, number: u32, records: &[u32]) -> Judged
-    ensures { judged_says result ≡ judged records.now shown number }
-{
-    if !usable(shown, records) {
-        return Judged::Unusable;
-    }
-    if !is_record(records, number) {
-        return Judged::Unusable;
-    }
-    let entries = shown.entries;
-    let count = shown.count as usize;
-    Judged::Place(place_of(&entries[..count], number))
-}
-
-fn refuse(k: u8, shown: Shown) -> ShownAnswer
-    ensures { result ≡ refusal k shown }
+fn refuse(refusal: Refusal, shown: Shown) -> ShownAnswer
+    ensures { result ≡ refused refusal shown }
 {
     ShownAnswer {
-        answer: Change::Declined(k),
+        answer: Err(refusal),
         shown,
     }
 }
@@ -155,39 +138,27 @@ pub fn show(shown: Shown, number: u32, records: &[u32]) -> ShownAnswer
         ≡ changed (called records.now shown (showing number)) }
     ensures list { result.shown ≡ shown_after records.now shown (showing number) }
 {
-    let Judged::Place(place) = judge(shown, number, records) else {
-        return refuse(19, shown);
+    let place = match shown.judge(number, records) {
+        Ok(place) => place,
+        Err(refusal) => return refuse(refusal, shown),
     };
     let count = shown.count as usize;
     if place < count {
-        return refuse(19, shown);
+        return refuse(Refusal::ListOrNumber, shown);
     }
     if 64 <= count {
-        return refuse(21, shown);
+        return refuse(Refusal::ListFull, shown);
     }
     let mut entries = shown.entries;
     entries[count] = number;
     let total = shown.total + points_of(records, number) as u64;
     ShownAnswer {
-        answer: Change::Changed,
+        answer: Ok(()),
         shown: Shown {
             entries,
             count: shown.count + 1,
             total,
         },
-    }
-}
-
-// The entries behind a place, up to an end, move up by one.
-fn close_up(entries: &mut [u32; 64], place: usize, end: usize)
-    requires { (place < end) × (end ≤ 64) × (length entries.old ≡ 64) }
-    ensures { entries.new
-        ≡ sets entries.old place (slice (place + 1) end entries.old) }
-{
-    let mut from = place + 1;
-    while from < end {
-        entries[from - 1] = entries[from];
-        from += 1;
     }
 }
 
@@ -197,18 +168,19 @@ pub fn hide(shown: Shown, number: u32, records: &[u32]) -> ShownAnswer
         ≡ changed (called records.now shown (hiding number)) }
     ensures list { result.shown ≡ shown_after records.now shown (hiding number) }
 {
-    let Judged::Place(place) = judge(shown, number, records) else {
-        return refuse(19, shown);
+    let place = match shown.judge(number, records) {
+        Ok(place) => place,
+        Err(refusal) => return refuse(refusal, shown),
     };
     let count = shown.count as usize;
     if count <= place {
-        return refuse(20, shown);
+        return refuse(Refusal::NotShown, shown);
     }
     let mut entries = shown.entries;
-    close_up(&mut entries, place, count);
+    entries.copy_within(place + 1..count, place);
     let left = shown.total - points_of(records, number) as u64;
     ShownAnswer {
-        answer: Change::Changed,
+        answer: Ok(()),
         shown: Shown {
             entries,
             count: shown.count - 1,

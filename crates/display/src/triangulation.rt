@@ -11,25 +11,16 @@ ghost use Rattle.display.specs.Triangles.{record_usable, records_usable, triangl
 ghost use Rattle.display.specs.Internal.{point_after, Numbered, measured_says};
 
 use super::record_at;
+use bits::{FillError, Refusal};
 use payload::{Filled, Record};
-
-// How many numbers the triangles of all records take, or that the records are refused with 15.
-#[derive(Clone, Copy)]
-enum Measured {
-    Numbers(usize),
-    Unusable,
-}
 
 fn triangle_count(mode: u32, points: u32) -> u32
     ensures { result ≡ triangle_count mode points }
 {
-    if mode == 0 {
-        return points / 3;
+    match mode {
+        0 => points / 3,
+        _ => points.saturating_sub(2),
     }
-    if points < 2 {
-        return 0;
-    }
-    points - 2
 }
 
 fn put_triangle(out: &mut [u32], at: usize, a: u32, b: u32, c: u32)
@@ -48,12 +39,8 @@ fn put_threes(first: u32, numbers: usize, at: usize, out: &mut [u32])
     requires { (first + numbers ≤ 4294967295) × (at + numbers ≤ length out.old) }
     ensures { out.new ≡ sets out.old at (each (point_after first) numbers) }
 {
-    let mut p = first;
-    let mut i: usize = 0;
-    while i < numbers {
-        out[at + i] = p;
-        p += 1;
-        i += 1;
+    for i in 0..numbers {
+        out[at + i] = first + i as u32;
     }
 }
 
@@ -63,18 +50,15 @@ fn put_strip(first: u32, n: u32, at: usize, out: &mut [u32])
     requires n_in_bounds { at + length (each (corners_from 1 first) n) ≤ length out.old }
     ensures { out.new ≡ sets out.old at (each (corners_from 1 first) n) }
 {
-    let mut to = at;
-    let mut k: u32 = 0;
-    while k + 1 < n {
-        let p = first + k;
+    for pair in 0..n / 2 {
+        let p = first + 2 * pair;
+        let to = at + 6 * (pair as usize);
         put_triangle(out, to, p, p + 1, p + 2);
         put_triangle(out, to + 3, p + 2, p + 1, p + 3);
-        to += 6;
-        k += 2;
     }
-    if k < n {
-        let p = first + k;
-        put_triangle(out, to, p, p + 1, p + 2);
+    if n % 2 == 1 {
+        let p = first + (n - 1);
+        put_triangle(out, at + 3 * (n as usize - 1), p, p + 1, p + 2);
     }
 }
 
@@ -84,11 +68,9 @@ fn put_fan(first: u32, n: u32, at: usize, out: &mut [u32])
     requires n_in_bounds { at + length (each (corners_from 2 first) n) ≤ length out.old }
     ensures { out.new ≡ sets out.old at (each (corners_from 2 first) n) }
 {
-    let mut k: u32 = 0;
-    while k < n {
+    for k in 0..n {
         let p = first + k;
         put_triangle(out, at + 3 * (k as usize), first, p + 1, p + 2);
-        k += 1;
     }
 }
 
@@ -102,15 +84,11 @@ fn put_record(submesh: Record, at: usize, out: &mut [u32]) -> usize
     let first = submesh.first;
     let n = triangle_count(submesh.mode, submesh.points);
     let size = 3 * (n as usize);
-    if submesh.mode == 0 {
-        put_threes(first, size, at, out);
-        return at + size;
+    match submesh.mode {
+        0 => put_threes(first, size, at, out),
+        1 => put_strip(first, n, at, out),
+        _ => put_fan(first, n, at, out),
     }
-    if submesh.mode == 1 {
-        put_strip(first, n, at, out);
-        return at + size;
-    }
-    put_fan(first, n, at, out);
     at + size
 }
 
@@ -120,30 +98,28 @@ fn record_usable(submesh: Record) -> bool
     (submesh.mode <= 2) & (submesh.first as u64 + submesh.points as u64 <= 4_294_967_295)
 }
 
-// Judges all records before anything is written.
-fn measure(records: &[u32]) -> Measured
+// How many numbers the triangles of all records take: 15 where the records are not usable.
+fn measure(records: &[u32]) -> Result<usize, Refusal>
     ensures { measured_says result ≡ mapped length (triangles_made records.now) }
 {
     let n = records.len();
     if n % 5 != 0 {
-        return Measured::Unusable;
+        return Err(Refusal::Records);
     }
     let mut points: u32 = 0;
     let mut numbers: usize = 0;
-    let mut i = 0;
-    while i < n {
-        let submesh = record_at(records, i);
+    for number in 0..n / 5 {
+        let submesh = record_at(records, 5 * number);
         if !record_usable(submesh) {
-            return Measured::Unusable;
+            return Err(Refusal::Records);
         }
         if u32::MAX - points < submesh.points {
-            return Measured::Unusable;
+            return Err(Refusal::Records);
         }
         points += submesh.points;
         numbers += 3 * (triangle_count(submesh.mode, submesh.points) as usize);
-        i += 5;
     }
-    Measured::Numbers(numbers)
+    Ok(numbers)
 }
 
 fn fill(records: &[u32], out: &mut [u32])
@@ -152,10 +128,8 @@ fn fill(records: &[u32], out: &mut [u32])
     ensures { out.new ≡ sets out.old 0 (triangles_of (records_in records.now)) }
 {
     let mut to = 0;
-    let mut i = 0;
-    while i < records.len() {
-        to = put_record(record_at(records, i), to, out);
-        i += 5;
+    for number in 0..records.len() / 5 {
+        to = put_record(record_at(records, 5 * number), to, out);
     }
 }
 
@@ -166,12 +140,10 @@ pub fn triangles(records: &[u32], out: &mut [u32]) -> Filled
     ensures buffers { out.new ∷ []
         ≡ buffers_after (in_items 1 (triangles_made records.now)) (at_entry (out ∷ [])) }
 {
-    let Measured::Numbers(count) = measure(records) else {
-        return Filled::Declined(15);
-    };
+    let count = measure(records)?;
     if out.len() < count {
-        return Filled::Needs(count);
+        return Err(FillError::Needs(count));
     }
     fill(records, out);
-    Filled::Count(count)
+    Ok(count)
 }

@@ -1,20 +1,21 @@
 -- `equi_refusal` meets its contract. Assumes nothing.
-use mathlib.Core.Path.{sym, ap, ◌∙◌}
-use Rattle.payload.specs.Fill.{grid_lengths_says}
+use Rattle.std.proofs.Common.{sym, ◌∙◌}
+use Rattle.bits.specs.Says.{number_of}
 use Rattle.scene.proofs.SceneLaws.{refusal_other, refusal_grid, refusal_crop}
 use Rattle.scene.proofs.equi_refusal.Goals as goal
 
-pub returns-then-k-ne10 : goal.returns-then-k-ne10
-returns-then-k-ne10 c = let a = c.args in refusal_other a.rings a.sectors a.k c.if-k-ne10.true
-
-pub returns-in-Declined : goal.returns-in-Declined
-returns-in-Declined c =
+pub returns-then-number-ne10 : goal.returns-then-number-ne10
+returns-then-number-ne10 c =
     let a = c.args in
-    refusal_grid a.rings a.sectors a.k _ c.if-k-ne10.false
-    (sym (ap grid_lengths_says c.in-Declined.is) ∙ c.sphere_lengths.ensures)
+    refusal_other a.rings a.sectors (number_of a.refusal) (λ e. c.if-number-ne10.true (c.number.ensures ∙ e))
 
-pub returns-in-Lengths : goal.returns-in-Lengths
-returns-in-Lengths c =
+pub returns-in-Err : goal.returns-in-Err
+returns-in-Err c =
     let a = c.args in
-    refusal_crop a.rings a.sectors a.k _ _ c.if-k-ne10.false
-    (sym (ap grid_lengths_says c.in-Lengths.is) ∙ c.sphere_lengths.ensures)
+    refusal_grid a.rings a.sectors (number_of a.refusal) _ (sym c.number.ensures ∙ c.if-number-ne10.false) c.in-Err.ensures
+
+pub returns-in-Ok : goal.returns-in-Ok
+returns-in-Ok c =
+    let a = c.args in
+    let ten = sym c.number.ensures ∙ c.if-number-ne10.false in
+    ten ∙ refusal_crop a.rings a.sectors (number_of a.refusal) _ _ ten c.in-Ok.ensures

@@ -1,23 +1,22 @@
 -- `scene_cbmp` meets its contract. Assumes nothing.
-use mathlib.Core.Path.{sym, ap, ◌∙◌}
-use mathlib.Core.List.{[], ◌∷◌}
-use Rattle.payload.specs.Cbmp.{cbmp_says}
+use Rattle.std.proofs.Common.{[], ◌∷◌, ◌∙◌}
+use Rattle.bits.proofs.SaysLaws.{passed_on}
 use Rattle.payload.proofs.LentLaws.{refused}
 use Rattle.scene.specs.Internal.{cbmp_plan}
 use Rattle.scene.proofs.KindLaws.{cbmp_read_law, cbmp_declined}
 use Rattle.scene.proofs.scene_cbmp.Goals as goal
 
-pub returns-in-Declined : goal.returns-in-Declined
-returns-in-Declined c =
+pub returns-in_err-pixels : goal.returns-in_err-pixels
+returns-in_err-pixels c =
     let a = c.args in
-    let e = sym (ap cbmp_says c.in-Declined.is) ∙ c.parse_cbmp.ensures in
     let v = cbmp_plan a.payload.now a.cells a.radius a.face_width in
-    λ rs. refused v (a.numbers.now ∷ a.floats.now ∷ rs ∷ []) _
-    (cbmp_declined a.cells a.radius a.face_width a.payload.now _ e)
+    λ rs.
+    let r = refused v (a.numbers.now ∷ a.floats.now ∷ rs ∷ []) _
+    (cbmp_declined a.cells a.radius a.face_width a.payload.now _ c.in_err-pixels.ensures) in
+    (passed_on _ _ _ _ c.from_residual.ensures.1 ∙ r.0, r.1)
 
-pub returns-in-Padding : goal.returns-in-Padding
-returns-in-Padding c =
+pub returns : goal.returns
+returns c =
     let a = c.args in
-    let e = sym (ap cbmp_says c.in-Padding.is) ∙ c.parse_cbmp.ensures in
-    rw (← cbmp_read_law a.cells a.radius a.face_width a.payload.now _ e, ← c.face_share.ensures)
+    rw (← cbmp_read_law a.cells a.radius a.face_width a.payload.now _ c.in_ok-pixels.ensures, ← c.face_share-share.ensures)
     c.draw_cube.ensures

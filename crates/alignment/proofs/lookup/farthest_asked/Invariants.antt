@@ -1,13 +1,9 @@
--- `farthest_asked` meets its contract. The invariant: the farthest of the numbers that were looked at, from the back.
--- Assumes nothing.
+-- `farthest_asked` meets its contract: the farthest so far, and what is left. Assumes nothing.
 use mathlib.Core.Path.{◌≡◌}
-use Prim.Native.Nat.{◌≤◌}
-use lib.ListN.{length, drop}
+use Prim.Native.Nat.{max}
+use lib.ListN.{drop}
 use Rattle.alignment.specs.LookUp.{farthest}
 use Rattle.alignment.proofs.lookup.farthest_asked.Given as goal
 
-abbrev pub invariant-loop-i : goal.invariant-loop-i
-invariant-loop-i l = (l.i ≤ length l.asked) × (l.far ≡ farthest (drop l.i l.asked))
-
-abbrev pub decreases-loop-i : goal.decreases-loop-i
-decreases-loop-i l = l.i
+abbrev pub invariant-loop-k : goal.invariant-loop-k
+invariant-loop-k l = farthest l.asked ≡ max l.far (farthest (drop l.k-index l.asked))

@@ -1,25 +1,19 @@
--- `all_in_range` meets its contract: what was found so far, and what is left. Assumes nothing.
-use mathlib.Core.Path.{refl, sym, ◌∙◌}
-use native.Mathlib.Omega.{arith}
+-- `all_in_range` meets its contract: the test of each number is that of the whole list. Assumes nothing.
+use mathlib.Core.Path.{◌≡◌, refl}
+use mathlib.Core.Bool.{Bool, true, false, cond, ◌&&◌}
 use lib.Dec.{ltb}
-use lib.ListN.{get_or}
-use Rattle.payload.proofs.JudgeLaws.{all_end, all_on, below_test}
+use Rattle.std.proofs.Common.{rules}
+use Rattle.std.proofs.lemmas.List.Recursion.{and_is}
+use Rattle.payload.specs.MeshWrite.{all_of, all_below}
 use Rattle.display.proofs.shares.all_in_range.Goals as goal
 
-pub loop-i-init : goal.loop-i-init
-loop-i-init c = (omega arith, refl)
-
-pub loop-i-preserved : goal.loop-i-preserved
-loop-i-preserved c =
-    let a = c.args in
-    let l = c.loop-i in (
-      omega arith,
-      l.invariant.1
-          ∙ all_on (λ x. ltb x 1000000) a.numbers.now l.i l.above _ (below_test (get_or a.numbers.now l.i 0) 1000000) c.loop-i-test.true,
-    )
+both : (a b : Bool) → cond a b false ≡ (a && b)
+both true b = refl
+both false b = refl
 
 pub returns : goal.returns
+unfolding all_of
 returns c =
     let a = c.args in
-    let l = c.loop-i in
-    sym (l.invariant.1 ∙ all_end (λ x. ltb x 1000000) a.numbers.now l.i l.above (omega arith))
+    and_is (all_below 1000000) (λ x. ltb x 1000000) refl (λ x l. both (ltb x 1000000) (all_below 1000000 l)) a.numbers.now 0 c.all.result
+    (search rules) (search rules)

@@ -2,30 +2,22 @@
 use native.Mathlib.Omega.{arith}
 use Rattle.display.proofs.LevelLaws.{lowest_first, lowest_past, lowest_end, lowest_most}
 use Rattle.display.proofs.shares.lowest.Goals as goal
+use Rattle.display.proofs.shares.lowest.Goals.{then-level-wish, else-level-wish}
 
-pub loop-i-init : goal.loop-i-init
-loop-i-init c = (omega arith, omega arith, omega (arith, lowest_most c.args.level c.args.wishes.now))
+pub loop-wish-init : goal.loop-wish-init
+loop-wish-init c = (omega arith, omega (arith, lowest_most c.args.level c.args.wishes.now))
 
-pub loop-i-preserved-then-wish-low : goal.loop-i-preserved-then-wish-low
-loop-i-preserved-then-wish-low c =
+pub loop-wish-preserved : goal.loop-wish-preserved
+loop-wish-preserved c =
     let a = c.args in
-    let l = c.loop-i in
-    (omega arith, omega arith, omega (arith, lowest_first a.level a.wishes.now l.i (omega arith) c.if-level-wish.true))
-
-pub loop-i-preserved-else-wish-low : goal.loop-i-preserved-else-wish-low
-loop-i-preserved-else-wish-low c =
-    let a = c.args in
-    let l = c.loop-i in
-    (omega arith, omega arith, omega (arith, lowest_first a.level a.wishes.now l.i (omega arith) c.if-level-wish.true))
-
-pub loop-i-preserved : goal.loop-i-preserved
-loop-i-preserved c =
-    let a = c.args in
-    let l = c.loop-i in
-    (omega arith, omega arith, omega (arith, lowest_past a.level a.wishes.now l.i (omega arith) c.if-level-wish.false))
+    let l = c.loop-wish in
+    elim c.if-level-wish.branch [
+      | then-level-wish w ↦ (omega arith, omega (arith, lowest_first a.level a.wishes.now l.wish-index (omega arith) (omega arith)))
+      | else-level-wish w ↦ (omega arith, omega (arith, lowest_past a.level a.wishes.now l.wish-index (omega arith) (omega arith)))
+    ]
 
 pub returns : goal.returns
 returns c =
     let a = c.args in
-    let l = c.loop-i in
-    omega (arith, lowest_end a.level a.wishes.now l.i (omega arith))
+    let l = c.loop-wish in
+    omega (arith, lowest_end a.level a.wishes.now l.wish-index (omega arith))

@@ -1,25 +1,14 @@
--- `unmet` meets its contract: the count so far, and what is left. Assumes nothing.
-use native.Mathlib.Omega.{arith}
-use Rattle.display.proofs.LevelLaws.{unmet_first, unmet_end}
+-- `unmet` meets its contract: the count is one over the list. Assumes nothing.
+use Prim.Native.Nat.{ℕ}
+use mathlib.Core.Path.{◌≡◌, ◌∙◌}
+use lib.Dec.{ltb}
+use Rattle.std.proofs.Common.{rules}
+use Rattle.std.specs.List.{count_by}
+use Rattle.display.proofs.LevelLaws.{unmet_is}
 use Rattle.display.proofs.shares.unmet.Goals as goal
-
-pub loop-i-init : goal.loop-i-init
-loop-i-init c = (omega arith, omega arith, omega arith)
-
-pub loop-i-preserved-then-level-wish : goal.loop-i-preserved-then-level-wish
-loop-i-preserved-then-level-wish c =
-    let a = c.args in
-    let l = c.loop-i in
-    (omega arith, omega arith, omega (arith, unmet_first a.level a.wishes.now l.i (omega arith)))
-
-pub loop-i-preserved : goal.loop-i-preserved
-loop-i-preserved c =
-    let a = c.args in
-    let l = c.loop-i in
-    (omega arith, omega arith, omega (arith, unmet_first a.level a.wishes.now l.i (omega arith)))
 
 pub returns : goal.returns
 returns c =
     let a = c.args in
-    let l = c.loop-i in
-    omega (arith, unmet_end a.level a.wishes.now l.i (omega arith))
+    let counted : c.count.result ≡ count_by (λ (w : ℕ). ltb a.level w) a.wishes.now = search rules in
+    counted ∙ unmet_is a.level a.wishes.now

@@ -1,11 +1,7 @@
 -- `fill` meets its contract: with what is left put too, all triangles are put. Assumes nothing.
-use Prim.Native.Nat.{◌-◌}
-use lib.ListN.{length}
+use Prim.Native.Nat.{◌*◌}
 use Rattle.display.proofs.PutLaws.{Putting}
 use Rattle.display.proofs.triangulation.fill.Given as goal
 
-abbrev pub invariant-loop-i : goal.invariant-loop-i
-invariant-loop-i l = Putting l.records l.initial.out l.out l.to l.i
-
-abbrev pub decreases-loop-i : goal.decreases-loop-i
-decreases-loop-i l = length l.records - l.i
+abbrev pub invariant-loop-number : goal.invariant-loop-number
+invariant-loop-number l = Putting l.records l.initial.out l.out l.to (5 * l.number)

@@ -4,13 +4,13 @@ use Prim.Native.Nat.{◌/◌}
 use Rattle.alignment.specs.Internal.{Filled}
 use Rattle.alignment.proofs.ChainLaws.{On}
 use Rattle.alignment.proofs.ChainLaws.{Least}
-use Rattle.alignment.proofs.questions.answer_point.Given as goal
+use Rattle.alignment.proofs.questions.Chains.answer_point.Given as goal
 
 abbrev pub invariant-loop-place : goal.invariant-loop-place
 invariant-loop-place l =
-    On l.asked l.width (l.point / l.width) l.place
-    × Filled l.asked l.place l.point l.vertex l.initial.out l.out
-    × Least l.asked l.width l.point l.place l.next
+    On l.self.asked.now l.self.width (l.point / l.self.width) l.place
+    × Filled l.self.asked.now l.place l.point l.vertex l.initial.out l.out
+    × Least l.self.asked.now l.self.width l.point l.place l.next
 
 abbrev pub decreases-loop-place : goal.decreases-loop-place
 decreases-loop-place l = l.place
