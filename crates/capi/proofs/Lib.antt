@@ -1,7 +1,6 @@
 -- The laws that the functions' proofs share.
 pub mod Stores
 pub mod Handed
-pub mod ValueLaws
 pub mod ShownListLaws
 pub mod ListProofs
 pub mod Totals

@@ -1,6 +1,5 @@
 -- A list of shown submeshes in a lent buffer: what the words and the buffer are after a call. Assumes nothing.
-use Rattle.std.proofs.Common.{◌≡◌, ℕ, ◌<◌, ◌≤◌, List, [], ◌∷◌, ◌++◌, length, take, drop, replicate, sym, refl, ap, ◌∙◌, append-nil, zero-add, arith, length-append, length-drop, length-take-le, take_all, le-leb}
-use lib.Seq.{sets, sets-eq}
+use Rattle.std.proofs.Common.{◌≡◌, ℕ, ◌<◌, ◌≤◌, List, [], ◌∷◌, length, take, drop, sym, refl, ap, ◌∙◌, arith, length-append, length-drop, length-take-le, le-leb}
 use borrow.Author.Tests.{lt-leb}
 use Rattle.bits.specs.Verdict.{Verdict, accepted, needs, declined, mapped}
 use Rattle.payload.specs.Lent.{Plan, ◌onto◌, answer_for, buffers_after}
@@ -11,27 +10,11 @@ use Rattle.display.proofs.ShownProofs.{shown_exactly}
 use Rattle.capi.specs.Answer.{two}
 use Rattle.capi.specs.ShownLists.{list_of, none_plan, list_called, entries_after}
 
--- all of a list has been put, entry by entry
-pub put_all : (d l : List ℕ) (i : ℕ) → length l ≤ i → length l ≤ length d → sets d 0 (take i l) ≡ l onto d
-put_all d l i h k =
-    ap (λ (m : List ℕ). sets d 0 m) (take_all i l h)
-    ∙ sets-eq l d 0 (omega arith)
-    ∙ ap (λ (j : ℕ). l ++ drop j d) (zero-add (length l))
-
 -- a list onto the front of a buffer
 pub front_length : (l d : List ℕ) (n : ℕ) → length l ≤ n → n ≤ length d → length (l onto take n d) ≡ n
 front_length l d n h k =
     let size = length-take-le n d k in
     length-append l (drop (length l) (take n d)) ∙ omega (arith, length-drop (length l) (take n d))
-
--- 64 entries put onto as many
-pub list_put : (entries l : List ℕ) (count total : ℕ) → 64 ≤ length entries → l ≡ take 64 entries onto replicate 64 0
-    → ◌≡◌ {A = Shown} (record { entries = l; count = count; total = total }) (list_of entries count total)
-list_put entries l count total h e =
-    let z = length-take-le 64 entries h in
-    let f : take 64 entries onto replicate 64 0 ≡ take 64 entries =
-    ap (λ (j : ℕ). take 64 entries ++ drop j (replicate 64 0)) z ∙ append-nil (take 64 entries) in
-    rw (e, f)
 
 module _ (words entries : List ℕ) (count total : ℕ) (q : Request) where
   abbrev s : Shown
@@ -76,12 +59,12 @@ module _ (words entries : List ℕ) (count total : ℕ) (q : Request) where
 
     -- r is the list that was handed in, c what the call said, and t the list that it handed back
     module _ (r : Shown) (i : r ≡ s) (c : Verdict (Unit {0})) (t : Shown)
-        (a : (c ≡ changed (called words r q)) × (t ≡ shown_after words r q)) where
+        (a : c ≡ changed (called words r q)) (b : t ≡ shown_after words r q) where
       pub list_said : mapped (λ u. two (t.count, t.total)) c ≡ mapped two (answer_for plan (entries ∷ []))
-      list_said = rw (a.0, a.1, i) (said_by (called words s q) refl)
+      list_said = rw (a, b, i) (said_by (called words s q) refl)
 
       pub list_left : (l : List ℕ) → l ≡ entries_after c t entries → l ∷ [] ≡ buffers_after plan (entries ∷ [])
-      list_left l e = rw (e, a.0, a.1, i) (left_by (called words s q) refl)
+      list_left l e = rw (e, a, b, i) (left_by (called words s q) refl)
 
 -- ---- the empty list
 

@@ -1,8 +1,8 @@
 -- Words stored one after the other from place 0 on. Assumes nothing.
-use Rattle.std.proofs.Common.{◌≡◌, ℕ, ◌+◌, ◌<◌, ◌≤◌, List, [], ◌∷◌, length, get_or, take, set, sym, refl, ap, ◌∙◌, ap₂, add-one, arith, length-take-le, take_all, take-suc, take_at, le-leb}
+use Rattle.std.proofs.Common.{◌≡◌, ℕ, ◌<◌, ◌≤◌, List, ◌++◌, length, take, drop, sym, refl, ap, ◌∙◌}
+use Rattle.std.proofs.Common.{zero-add, arith, take_at, le-leb}
 use lib.Seq.{sets, sets-eq, length-sets}
 use borrow.Author.Tests.{lt-leb}
-use Rattle.payload.proofs.Theorems.{sets-append}
 use Rattle.capi.specs.Answer.{stored}
 
 module _ (d ws : List ℕ) where
@@ -10,21 +10,19 @@ module _ (d ws : List ℕ) where
   unfolding stored
   stored_not h = sym (simp (lt-leb (length ws) (length d) h))
 
-  -- l holds the first i of them
-  pub stored_next : (l : List ℕ) (i : ℕ) → i < length ws → l ≡ sets d 0 (take i ws) → set l i (get_or ws i 0) ≡ sets d 0 (take (i + 1) ws)
-  stored_next l i h e =
-      let n : i ≡ 0 + length (take i ws) = omega (arith, length-take-le i ws (omega arith)) in
-      ap₂ (λ (x : List ℕ) (k : ℕ). set x k (get_or ws i 0)) e n
-      ∙ sym (sets-append (take i ws) (get_or ws i 0 ∷ []) d 0)
-      ∙ ap (λ (x : List ℕ). sets d 0 x) (sym (take-suc ws i 0 h) ∙ ap (λ (k : ℕ). take k ws) (sym (add-one i)))
-
-  pub stored_all : (i : ℕ) → length ws ≤ i → length ws ≤ length d → sets d 0 (take i ws) ≡ stored d ws
+  -- they were copied to the front
+  pub stored_front : (front : List ℕ) → length ws ≤ length d → front ≡ ws → front ++ drop (length ws) d ≡ stored d ws
   unfolding stored
-  stored_all i h r = ap (λ (x : List ℕ). sets d 0 x) (take_all i ws h) ∙ sym (simp (le-leb (length ws) (length d) r))
+  stored_front front h e =
+      let s : stored d ws ≡ sets d 0 ws = simp (le-leb (length ws) (length d) h) in
+      ap (λ (x : List ℕ). x ++ drop (length ws) d) e
+      ∙ sym (s ∙ sets-eq ws d 0 (omega arith) ∙ ap (λ (k : ℕ). ws ++ drop k d) (zero-add (length ws)))
 
   -- where they fit, they are the first of what is there then
-  pub stored_held : (l : List ℕ) → length ws ≤ length d → l ≡ stored d ws → (take (length ws) l ≡ ws) × (length ws ≤ length l)
+  pub stored_held : (l : List ℕ) → length ws ≤ length d → l ≡ stored d ws
+      → (take (length ws) l ≡ ws) × (length ws ≤ length l)
   unfolding stored
   stored_held l h e =
       let s : l ≡ sets d 0 ws = e ∙ simp (le-leb (length ws) (length d) h) in
-      (ap (take (length ws)) (s ∙ sets-eq ws d 0 (omega arith)) ∙ take_at ws _ (length ws) refl, omega (arith, ap length s, length-sets d 0 ws))
+      let f = s ∙ sets-eq ws d 0 (omega arith) in
+      (ap (take (length ws)) f ∙ take_at ws _ (length ws) refl, omega (arith, ap length s, length-sets d 0 ws))

@@ -1,5 +1,5 @@
 -- How the values of `payload` cross to C: what numbers and floats stand for, and what words a value is put into.
-use Rattle.std.specs.Prelude.{ℕ, cond, List, [], ◌∷◌, ◌==◌, Float}
+use Rattle.std.specs.Prelude.{ℕ, cond, List, [], ◌∷◌, ◌==◌, Float, Option, Some, None}
 use Rattle.bits.specs.Float.{bits_of}
 use Rattle.payload.specs.declared.crop.Bounds.{Bounds}
 use Rattle.payload.specs.declared.equi.EquiFields.{EquiFields}
@@ -14,8 +14,6 @@ use Rattle.payload.specs.declared.view.Projection.{Projection}
 use Rattle.payload.specs.declared.view.Projection.TheVariants as P
 use Rattle.payload.specs.declared.view.Eye.{Eye}
 use Rattle.payload.specs.declared.view.Eye.TheVariants.{Left, Right}
-use Rattle.payload.specs.declared.view.Patch.{Patch}
-use Rattle.payload.specs.declared.view.Patch.TheVariants as B
 
 -- ---- crops and fields
 
@@ -33,9 +31,9 @@ abbrev pub reading : EquiFields × Bounds → List ℕ
 reading v = v.0.t ∷ v.0.b ∷ v.0.l ∷ v.0.r ∷ side_words v.1
 
 -- no words where there is no crop
-abbrev pub patch_words : Patch → List ℕ
-patch_words (B.Sphere b) = side_words b
-patch_words B.Nothing = []
+abbrev pub patch_words : Option Bounds → List ℕ
+patch_words (Some b) = side_words b
+patch_words None = []
 
 -- ---- the numbers of the layout types, and of the eyes
 

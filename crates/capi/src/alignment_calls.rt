@@ -2,22 +2,11 @@
 ghost use Rattle.std.specs.Prelude.{◌≡◌, [], ◌∷◌};
 ghost use Rattle.bits.specs.Verdict.{mapped};
 ghost use Rattle.payload.specs.Lent.{answer_for, buffers_after, at_entry};
-ghost use Rattle.alignment.specs.LookUp.{looked_up, look_up_says};
+ghost use Rattle.alignment.specs.LookUp.{looked_up};
 ghost use Rattle.capi.specs.Answer.{code_of, words_after, one};
-ghost use Rattle.capi.specs.Reply.{Says};
 
-use super::{Reply, accept, decline, hand_out, need};
-use alignment::LookUp;
-
-fn of_look_up(x: LookUp) -> Reply
-    ensures { Says result (mapped one (look_up_says x)) }
-{
-    match x {
-        LookUp::Walked(n) => accept(&[n as u64]),
-        LookUp::Needs(n) => need(&[n as u64]),
-        LookUp::Declined(k) => decline(k),
-    }
-}
+use super::hand_out;
+use super::words::fill_reply;
 
 pub fn capi_look_up(
     payload: &[u8],
@@ -35,6 +24,6 @@ pub fn capi_look_up(
 {
     hand_out(
         words,
-        of_look_up(alignment::look_up(payload, number, asked, vertices)),
+        fill_reply(alignment::look_up(payload, number, asked, vertices)),
     )
 }

@@ -1,40 +1,14 @@
 // The calls of the byte cursor, four bytes as a word, and box headers.
 ghost use Rattle.std.specs.Prelude.{◌≡◌, ◌+◌, ◌-◌, ◌*◌, ◌^◌, length, pos};
 ghost use Rattle.bits.specs.Verdict.{accepted, and_then, mapped};
-ghost use Rattle.bits.specs.Read.{number_at, place_in, byte_says, word_says, seek_says};
+ghost use Rattle.bits.specs.Read.{number_at, place_in};
 ghost use Rattle.bits.specs.Header.{header_at, placed, header_says};
 ghost use Rattle.capi.specs.Answer.{code_of, words_after, one, two};
 ghost use Rattle.capi.specs.Reply.{Says};
 
+use super::words::{Words, reply};
 use super::{Reply, accept, decline, hand_out};
-use bits::{BoxHeader, ByteCursor, ByteRead, Seek, WordRead};
-
-fn of_seek(x: Seek) -> Reply
-    ensures { Says result (mapped one (seek_says x)) }
-{
-    match x {
-        Seek::To(c) => accept(&[c.at as u64]),
-        Seek::Short => decline(3),
-    }
-}
-
-fn of_byte(x: ByteRead) -> Reply
-    ensures { Says result (mapped two (byte_says x)) }
-{
-    match x {
-        ByteRead::Value(v, c) => accept(&[v as u64, c.at as u64]),
-        ByteRead::Short => decline(3),
-    }
-}
-
-fn of_word(x: WordRead) -> Reply
-    ensures { Says result (mapped two (word_says x)) }
-{
-    match x {
-        WordRead::Value(v, c) => accept(&[v as u64, c.at as u64]),
-        WordRead::Short => decline(3),
-    }
-}
+use bits::{BoxHeader, ByteCursor, Refusal};
 
 fn of_header(x: BoxHeader) -> Reply
     ensures { Says result (and_then (header_says x) placed) }
@@ -44,8 +18,8 @@ fn of_header(x: BoxHeader) -> Reply
             accept(&[fourcc as u64, body as u64, end as u64])
         }
         BoxHeader::ListEnd => accept(&[]),
-        BoxHeader::BadSize => decline(6),
-        BoxHeader::Refused { fourcc: _, number } => decline(number),
+        BoxHeader::BadSize => decline(Refusal::BoxSize),
+        BoxHeader::Refused { fourcc: _, refusal } => decline(refusal),
     }
 }
 
@@ -53,15 +27,14 @@ pub fn capi_byte_new(words: &mut [u64]) -> i64
     ensures answer { result ≡ code_of (accepted (one 0)) }
     ensures words { words.new ≡ words_after words.old (accepted (one 0)) }
 {
-    let c = ByteCursor::new();
-    hand_out(words, accept(&[c.at as u64]))
+    hand_out(words, ByteCursor::new().accept())
 }
 
 pub fn capi_position(at: usize, words: &mut [u64]) -> i64
     ensures answer { result ≡ code_of (accepted (one at)) }
     ensures words { words.new ≡ words_after words.old (accepted (one at)) }
 {
-    hand_out(words, accept(&[ByteCursor { at }.position() as u64]))
+    hand_out(words, ByteCursor { at }.position().accept())
 }
 
 pub fn capi_remaining(s: &[u8], at: usize, words: &mut [u64]) -> i64
@@ -69,7 +42,7 @@ pub fn capi_remaining(s: &[u8], at: usize, words: &mut [u64]) -> i64
     ensures words { words.new
         ≡ words_after words.old (accepted (one (length s.now - at))) }
 {
-    hand_out(words, accept(&[ByteCursor { at }.remaining(s) as u64]))
+    hand_out(words, ByteCursor { at }.remaining(s).accept())
 }
 
 pub fn capi_seek(s: &[u8], at: usize, to: usize, words: &mut [u64]) -> i64
@@ -77,7 +50,7 @@ pub fn capi_seek(s: &[u8], at: usize, to: usize, words: &mut [u64]) -> i64
     ensures words { words.new
         ≡ words_after words.old (mapped one (place_in s.now to)) }
 {
-    hand_out(words, of_seek(ByteCursor { at }.seek(s, to)))
+    hand_out(words, reply(ByteCursor { at }.seek(s, to)))
 }
 
 pub fn capi_skip(s: &[u8], at: usize, n: usize, words: &mut [u64]) -> i64
@@ -85,7 +58,7 @@ pub fn capi_skip(s: &[u8], at: usize, n: usize, words: &mut [u64]) -> i64
     ensures words { words.new
         ≡ words_after words.old (mapped one (place_in s.now (at + n))) }
 {
-    hand_out(words, of_seek(ByteCursor { at }.skip(s, n)))
+    hand_out(words, reply(ByteCursor { at }.skip(s, n)))
 }
 
 pub fn capi_u8(s: &[u8], at: usize, words: &mut [u64]) -> i64
@@ -93,7 +66,7 @@ pub fn capi_u8(s: &[u8], at: usize, words: &mut [u64]) -> i64
     ensures words { words.new
         ≡ words_after words.old (mapped two (number_at 1 s.now at)) }
 {
-    hand_out(words, of_byte(ByteCursor { at }.u8(s)))
+    hand_out(words, reply(ByteCursor { at }.u8(s)))
 }
 
 pub fn capi_u32(s: &[u8], at: usize, words: &mut [u64]) -> i64
@@ -101,7 +74,7 @@ pub fn capi_u32(s: &[u8], at: usize, words: &mut [u64]) -> i64
     ensures words { words.new
         ≡ words_after words.old (mapped two (number_at 4 s.now at)) }
 {
-    hand_out(words, of_word(ByteCursor { at }.u32(s)))
+    hand_out(words, reply(ByteCursor { at }.u32(s)))
 }
 
 pub fn capi_header(s: &[u8], at: usize, words: &mut [u64]) -> i64

@@ -3,14 +3,14 @@ ghost use Rattle.std.specs.Prelude.{◌≡◌, [], ◌∷◌};
 ghost use Rattle.bits.specs.Verdict.{accepted, mapped, limited};
 ghost use Rattle.payload.specs.Lent.{in_items, answer_for, buffers_after, at_entry};
 ghost use Rattle.payload.specs.Crop.{usable};
-ghost use Rattle.payload.specs.Equi.{crop_of, equi_read, with_crop, equi_says, equi_written};
-ghost use Rattle.payload.specs.Cbmp.{cbmp_read, cbmp_says, cbmp_written};
+ghost use Rattle.payload.specs.Equi.{crop_of, equi_read, with_crop, equi_written};
+ghost use Rattle.payload.specs.Cbmp.{cbmp_read, cbmp_written};
 ghost use Rattle.capi.specs.Answer.{code_of, words_after, one, truth};
-ghost use Rattle.capi.specs.Reply.{Says};
 ghost use Rattle.capi.specs.Values.{sides, side_words, fields, reading};
 
-use super::{Reply, accept, decline, flag, hand_out, of_filled, side_words};
-use payload::{Bounds, CbmpAnswer, EquiAnswer, EquiFields};
+use super::words::{Words, fill_reply, reply};
+use super::{flag, hand_out};
+use payload::{Bounds, EquiFields};
 
 pub fn capi_is_usable(top: f32, bottom: f32, left: f32, right: f32) -> i64
     ensures { result ≡ truth (usable (sides top bottom left right)) }
@@ -29,22 +29,7 @@ pub fn capi_equi_crop(t: u32, b: u32, l: u32, r: u32, words: &mut [u64]) -> i64
     ensures words { words.new
         ≡ words_after words.old (accepted (side_words (crop_of (fields t b l r)))) }
 {
-    let crop = EquiFields { t, b, l, r }.crop();
-    hand_out(words, accept(&side_words(crop)))
-}
-
-fn of_equi(x: EquiAnswer) -> Reply
-    ensures { Says result (mapped reading (equi_says x)) }
-{
-    match x {
-        EquiAnswer::Reading(f, crop) => {
-            let w = side_words(crop);
-            accept(&[
-                f.t as u64, f.b as u64, f.l as u64, f.r as u64, w[0], w[1], w[2], w[3],
-            ])
-        }
-        EquiAnswer::Declined(k) => decline(k),
-    }
+    hand_out(words, EquiFields { t, b, l, r }.crop().accept())
 }
 
 pub fn capi_parse_equi(payload: &[u8], words: &mut [u64]) -> i64
@@ -53,7 +38,7 @@ pub fn capi_parse_equi(payload: &[u8], words: &mut [u64]) -> i64
     ensures words { words.new ≡ words_after words.old
         (mapped reading (limited payload.now (mapped with_crop (equi_read payload.now)))) }
 {
-    hand_out(words, of_equi(payload::parse_equi(payload)))
+    hand_out(words, reply(payload::parse_equi(payload)))
 }
 
 pub fn capi_write_equi(t: u32, b: u32, l: u32, r: u32, out: &mut [u8], words: &mut [u64]) -> i64
@@ -66,17 +51,8 @@ pub fn capi_write_equi(t: u32, b: u32, l: u32, r: u32, out: &mut [u8], words: &m
 {
     hand_out(
         words,
-        of_filled(payload::write_equi(EquiFields { t, b, l, r }, out)),
+        fill_reply(payload::write_equi(EquiFields { t, b, l, r }, out)),
     )
-}
-
-fn of_cbmp(x: CbmpAnswer) -> Reply
-    ensures { Says result (mapped one (cbmp_says x)) }
-{
-    match x {
-        CbmpAnswer::Padding(p) => accept(&[p as u64]),
-        CbmpAnswer::Declined(k) => decline(k),
-    }
 }
 
 pub fn capi_parse_cbmp(payload: &[u8], words: &mut [u64]) -> i64
@@ -86,7 +62,7 @@ pub fn capi_parse_cbmp(payload: &[u8], words: &mut [u64]) -> i64
         ≡ words_after words.old
         (mapped one (limited payload.now (cbmp_read payload.now))) }
 {
-    hand_out(words, of_cbmp(payload::parse_cbmp(payload)))
+    hand_out(words, reply(payload::parse_cbmp(payload)))
 }
 
 pub fn capi_write_cbmp(padding: u32, out: &mut [u8], words: &mut [u64]) -> i64
@@ -97,5 +73,5 @@ pub fn capi_write_cbmp(padding: u32, out: &mut [u8], words: &mut [u64]) -> i64
     ensures buffers { out.new ∷ []
         ≡ buffers_after (in_items 1 (cbmp_written padding)) (at_entry (out ∷ [])) }
 {
-    hand_out(words, of_filled(payload::write_cbmp(padding, out)))
+    hand_out(words, fill_reply(payload::write_cbmp(padding, out)))
 }

@@ -2,27 +2,18 @@
 ghost use Rattle.std.specs.Prelude.{◌≡◌, [], ◌∷◌, pos};
 ghost use Rattle.bits.specs.Verdict.{mapped};
 ghost use Rattle.bits.specs.Float.{bits_of};
-ghost use Rattle.payload.specs.Fill.{both_lengths, grid_lengths_says};
+ghost use Rattle.payload.specs.Fill.{both_lengths};
 ghost use Rattle.payload.specs.Lent.{in_items, answer_for, buffers_after, at_entry};
 ghost use Rattle.payload.specs.Float.{ratio};
 ghost use Rattle.payload.specs.Crop.{full};
 ghost use Rattle.payload.specs.Sphere.{sphere_numbers, sphere_uvs};
 ghost use Rattle.payload.specs.Cube.{cube_numbers, cube_floats};
 ghost use Rattle.capi.specs.Answer.{code_of, words_after, one, two};
-ghost use Rattle.capi.specs.Reply.{Says};
 ghost use Rattle.capi.specs.Values.{sides};
 
-use super::{Reply, accept, decline, hand_out, of_filled};
-use payload::{Bounds, GridLengths};
-
-fn of_lengths(x: GridLengths) -> Reply
-    ensures { Says result (mapped two (grid_lengths_says x)) }
-{
-    match x {
-        GridLengths::Lengths { numbers, floats } => accept(&[numbers as u64, floats as u64]),
-        GridLengths::Declined(k) => decline(k),
-    }
-}
+use super::hand_out;
+use super::words::{fill_reply, reply};
+use payload::Bounds;
 
 pub fn capi_sphere_indices(rings: u32, sectors: u32, out: &mut [u16], words: &mut [u64]) -> i64
     ensures answer { result ≡ code_of (mapped one
@@ -34,7 +25,7 @@ pub fn capi_sphere_indices(rings: u32, sectors: u32, out: &mut [u16], words: &mu
 {
     hand_out(
         words,
-        of_filled(payload::sphere_indices(rings, sectors, out)),
+        fill_reply(payload::sphere_indices(rings, sectors, out)),
     )
 }
 
@@ -64,7 +55,7 @@ pub fn capi_sphere_indices_bounded(
     };
     hand_out(
         words,
-        of_filled(payload::sphere_indices_bounded(rings, sectors, crop, out)),
+        fill_reply(payload::sphere_indices_bounded(rings, sectors, crop, out)),
     )
 }
 
@@ -76,7 +67,7 @@ pub fn capi_sphere_uvs(rings: u32, sectors: u32, out: &mut [u32], words: &mut [u
     ensures buffers { out.new ∷ []
         ≡ buffers_after (in_items 2 (sphere_uvs rings sectors)) (at_entry (out ∷ [])) }
 {
-    hand_out(words, of_filled(payload::sphere_uvs(rings, sectors, out)))
+    hand_out(words, fill_reply(payload::sphere_uvs(rings, sectors, out)))
 }
 
 pub fn capi_cubemap_indices(cells: u32, out: &mut [u16], words: &mut [u64]) -> i64
@@ -87,7 +78,7 @@ pub fn capi_cubemap_indices(cells: u32, out: &mut [u16], words: &mut [u64]) -> i
     ensures buffers { out.new ∷ []
         ≡ buffers_after (in_items 1 (cube_numbers cells)) (at_entry (out ∷ [])) }
 {
-    hand_out(words, of_filled(payload::cubemap_indices(cells, out)))
+    hand_out(words, fill_reply(payload::cubemap_indices(cells, out)))
 }
 
 pub fn capi_cubemap_mesh(
@@ -106,7 +97,7 @@ pub fn capi_cubemap_mesh(
 {
     hand_out(
         words,
-        of_filled(payload::cubemap_mesh(cells, radius, padding, out)),
+        fill_reply(payload::cubemap_mesh(cells, radius, padding, out)),
     )
 }
 
@@ -130,10 +121,7 @@ pub fn capi_sphere_lengths(
         left,
         right,
     };
-    hand_out(
-        words,
-        of_lengths(payload::sphere_lengths(rings, sectors, crop)),
-    )
+    hand_out(words, reply(payload::sphere_lengths(rings, sectors, crop)))
 }
 
 pub fn capi_cubemap_lengths(cells: u32, radius: f32, padding: f32, words: &mut [u64]) -> i64
@@ -144,7 +132,7 @@ pub fn capi_cubemap_lengths(cells: u32, radius: f32, padding: f32, words: &mut [
 {
     hand_out(
         words,
-        of_lengths(payload::cubemap_lengths(cells, radius, padding)),
+        reply(payload::cubemap_lengths(cells, radius, padding)),
     )
 }
 

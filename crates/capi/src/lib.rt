@@ -10,17 +10,18 @@
 // itself, 1 or 0 for yes or no, and -k for refusal k; `capi_zigzag`, which refuses nothing, may answer below 0.
 // Each contract is an equation with the definitions that the call's own contract cites, put into words by
 // specs/Answer.antt, Values.antt, ShownLists.antt and Scene.antt.
-#![tactic(auto)]
+#![tactic(auto, unfolding(crate::specs::Answer::code_of, crate::specs::Answer::words_after))]
 
-ghost use Rattle.std.specs.Prelude.{◌≡◌, ◌≤◌, length};
-ghost use Rattle.bits.specs.Verdict.{accepted, needs, declined, mapped};
+ghost use Rattle.std.specs.Prelude.{◌≡◌, ◌≤◌, length, neg_ℤ, pos};
+ghost use Rattle.bits.specs.Verdict.{accepted, declined};
 ghost use Rattle.bits.specs.Float.{bits_of};
-ghost use Rattle.payload.specs.Fill.{filled_says};
-ghost use Rattle.capi.specs.Answer.{stored, one, truth};
+ghost use Rattle.bits.specs.Says.{number_of};
+ghost use Rattle.capi.specs.Answer.{stored, truth};
 ghost use Rattle.capi.specs.Reply.{Holds, Says, used_words};
 ghost use Rattle.capi.specs.Values.{side_words};
 
-use payload::{Bounds, Filled};
+use bits::Refusal;
+use payload::Bounds;
 
 pub mod alignment_calls;
 pub mod bytes;
@@ -37,8 +38,10 @@ pub mod scene_call;
 pub mod shares;
 pub mod shown;
 pub mod view;
+mod words;
 
-// What a call answered: the i64, and the words that go with it.
+// What a call answered: the i64, and the words that go with it. An array with how many of it count: no heap, and no
+// answer has more than eight words.
 #[derive(Clone, Copy)]
 struct Reply {
     code: i64,
@@ -50,13 +53,8 @@ struct Reply {
 fn store(words: &mut [u64], given: &[u64])
     ensures { words.new ≡ stored words.old given.now }
 {
-    if words.len() < given.len() {
-        return;
-    }
-    let mut i = 0;
-    while i < given.len() {
-        words[i] = given[i];
-        i += 1;
+    if given.len() <= words.len() {
+        words[..given.len()].copy_from_slice(given);
     }
 }
 
@@ -66,9 +64,7 @@ fn hand_out(words: &mut [u64], reply: Reply) -> i64
     ensures answer { result ≡ reply.code }
     ensures words { words.new ≡ stored words.old (used_words reply) }
 {
-    let given = reply.words;
-    let used = reply.used;
-    store(words, &given[..used]);
+    store(words, &reply.words[..reply.used]);
     reply.code
 }
 
@@ -94,25 +90,24 @@ fn accept(given: &[u64]) -> Reply
     with_words(given.len() as i64, given)
 }
 
-// The lengths that the buffers need.
-fn need(given: &[u64]) -> Reply
-    requires { length given.now ≤ 8 }
-    ensures { Says result (needs given.now) }
+// A refusal as a number below 0.
+fn below(refusal: Refusal) -> i64
+    ensures { result ≡ neg_ℤ (pos (number_of refusal)) }
 {
-    with_words(-12, given)
+    -(refusal.number() as i64)
 }
 
 // The number of a refusal.
-fn decline(k: u8) -> Reply
-    ensures { Says result (declined k) }
+fn decline(refusal: Refusal) -> Reply
+    ensures { Says result (declined (number_of refusal)) }
 {
-    with_words(-(k as i64), &[])
+    with_words(below(refusal), &[])
 }
 
 fn flag(x: bool) -> i64
     ensures { result ≡ truth x }
 {
-    if x { 1 } else { 0 }
+    x as i64
 }
 
 // A float as a word.
@@ -127,15 +122,4 @@ fn side_words(b: Bounds) -> [u64; 4]
     ensures { result ≡ side_words b }
 {
     [word(b.top), word(b.bottom), word(b.left), word(b.right)]
-}
-
-// What a call answered that fills one lent buffer.
-fn of_filled(x: Filled) -> Reply
-    ensures { Says result (mapped one (filled_says x)) }
-{
-    match x {
-        Filled::Count(n) => accept(&[n as u64]),
-        Filled::Needs(n) => need(&[n as u64]),
-        Filled::Declined(k) => decline(k),
-    }
 }

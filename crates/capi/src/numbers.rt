@@ -5,8 +5,8 @@ ghost use Rattle.bits.specs.Number.{meaning, stepped_to, ran_on, width_of};
 ghost use Rattle.bits.specs.Float.{nearest, scaled, bits_of};
 ghost use Rattle.capi.specs.Answer.{code_of, words_after, one, numbered};
 
-use super::{accept, hand_out};
-use bits::Running;
+use super::words::Words;
+use super::{below, hand_out};
 
 pub fn capi_zigzag(n: u32) -> i64
     ensures { result ≡ meaning n }
@@ -19,15 +19,15 @@ pub fn capi_stepped(last: u32, field: u32, words: &mut [u64]) -> i64
     ensures words { words.new
         ≡ words_after words.old (accepted (one (stepped_to last field))) }
 {
-    hand_out(words, accept(&[bits::stepped(last, field)]))
+    hand_out(words, bits::stepped(last, field).accept())
 }
 
 pub fn capi_run_on(last: u32, field: u32, limit: u32) -> i64
     ensures { result ≡ numbered (ran_on limit last field) }
 {
     match bits::run_on(last, field, limit) {
-        Running::At(k) => k as i64,
-        Running::Out => -8,
+        Ok(number) => number as i64,
+        Err(refusal) => below(refusal),
     }
 }
 

@@ -5,7 +5,8 @@ ghost use Rattle.payload.specs.Lent.{in_items, answer_for, buffers_after, at_ent
 ghost use Rattle.display.specs.Triangles.{triangles_made};
 ghost use Rattle.capi.specs.Answer.{code_of, words_after, one};
 
-use super::{hand_out, of_filled};
+use super::hand_out;
+use super::words::fill_reply;
 
 pub fn capi_triangles(records: &[u32], out: &mut [u32], words: &mut [u64]) -> i64
     ensures answer { result ≡ code_of (mapped one
@@ -15,5 +16,5 @@ pub fn capi_triangles(records: &[u32], out: &mut [u32], words: &mut [u64]) -> i6
     ensures buffers { out.new ∷ []
         ≡ buffers_after (in_items 1 (triangles_made records.now)) (at_entry (out ∷ [])) }
 {
-    hand_out(words, of_filled(display::triangles(records, out)))
+    hand_out(words, fill_reply(display::triangles(records, out)))
 }

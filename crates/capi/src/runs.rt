@@ -2,34 +2,31 @@
 ghost use Rattle.std.specs.Prelude.{◌≡◌, ◌*◌, [], ◌∷◌, length};
 ghost use Rattle.bits.specs.Verdict.{limited, mapped};
 ghost use Rattle.bits.specs.Number.{width_of};
-ghost use Rattle.bits.specs.Run.{zeros, read_run, judged, check_says, run_there, run_filled, fives_there, fives_filled};
+ghost use Rattle.bits.specs.Run.{zeros, read_run, judged, run_there, run_filled, fives_there, fives_filled};
 ghost use Rattle.capi.specs.Answer.{code_of, none, truth};
 
-use super::flag;
-use bits::{Run, RunCheck};
-
-// 0 for a good run, -k for refusal k.
-fn of_check(x: RunCheck) -> i64
-    ensures { result ≡ code_of (mapped none (check_says x)) }
-{
-    match x {
-        RunCheck::Good => 0,
-        RunCheck::Declined(k) => -(k as i64),
-    }
-}
+use super::words::reply;
+use super::{flag, hand_out};
+use bits::Run;
 
 pub fn capi_check_run(s: &[u8], bit: usize, limit: u16, count: u32) -> i64
     ensures { result ≡ code_of (mapped none (limited s.now
         (judged (read_run s.now (width_of limit) limit count bit (zeros 1))))) }
 {
-    of_check(bits::check_run(s, Run { bit, limit, count }))
+    hand_out(
+        &mut [],
+        reply(bits::check_run(s, Run { bit, limit, count })),
+    )
 }
 
 pub fn capi_check_fives(s: &[u8], bit: usize, limit: u16, count: u32) -> i64
     ensures { result ≡ code_of (mapped none (limited s.now
         (judged (read_run s.now (width_of limit) limit (5 * count) bit (zeros 5))))) }
 {
-    of_check(bits::check_fives(s, Run { bit, limit, count }))
+    hand_out(
+        &mut [],
+        reply(bits::check_fives(s, Run { bit, limit, count })),
+    )
 }
 
 pub fn capi_fill_run(s: &[u8], bit: usize, width: u32, from: u16, out: &mut [u16]) -> i64

@@ -1,55 +1,12 @@
 // The scene call.
 ghost use Rattle.std.specs.Prelude.{◌≡◌, [], ◌∷◌};
 ghost use Rattle.bits.specs.Verdict.{mapped};
-ghost use Rattle.scene.specs.Scene.{call, scene_answer, scene_leaves, scene_says};
+ghost use Rattle.scene.specs.Scene.{call, scene_answer, scene_leaves};
 ghost use Rattle.capi.specs.Answer.{code_of, words_after};
-ghost use Rattle.capi.specs.Reply.{Says};
 ghost use Rattle.capi.specs.Scene.{scene_words};
 
-use super::{Reply, accept, decline, hand_out, need, side_words};
-use scene::SceneAnswer;
-
-fn of_scene(x: SceneAnswer) -> Reply
-    ensures { Says result (mapped scene_words (scene_says x)) }
-{
-    match x {
-        SceneAnswer::Crop(b, n) => {
-            let w = side_words(b);
-            accept(&[
-                0,
-                w[0],
-                w[1],
-                w[2],
-                w[3],
-                n.numbers as u64,
-                n.floats as u64,
-                n.records as u64,
-            ])
-        }
-        SceneAnswer::Padding(p, n) => accept(&[
-            1,
-            p as u64,
-            0,
-            0,
-            0,
-            n.numbers as u64,
-            n.floats as u64,
-            n.records as u64,
-        ]),
-        SceneAnswer::Meshes(c, n) => accept(&[
-            2,
-            c.meshes as u64,
-            c.submeshes as u64,
-            c.points as u64,
-            0,
-            n.numbers as u64,
-            n.floats as u64,
-            n.records as u64,
-        ]),
-        SceneAnswer::Needs(n) => need(&[n.numbers as u64, n.floats as u64, n.records as u64]),
-        SceneAnswer::Declined(k) => decline(k),
-    }
-}
+use super::hand_out;
+use super::words::fill_reply;
 
 pub fn capi_scene(
     kind: u32,
@@ -73,7 +30,7 @@ pub fn capi_scene(
 {
     hand_out(
         words,
-        of_scene(scene::scene(
+        fill_reply(scene::scene(
             kind, payload, rings, sectors, cells, radius, face_width, numbers, floats, records,
         )),
     )

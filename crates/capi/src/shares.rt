@@ -5,7 +5,8 @@ ghost use Rattle.payload.specs.Lent.{in_items, answer_for, buffers_after, at_ent
 ghost use Rattle.display.specs.Turns.{sharing};
 ghost use Rattle.capi.specs.Answer.{code_of, words_after, one};
 
-use super::{hand_out, of_filled};
+use super::hand_out;
+use super::words::fill_reply;
 
 pub fn capi_share_points(points: u32, wishes: &[u32], shares: &mut [u32], words: &mut [u64]) -> i64
     ensures answer { result ≡ code_of (mapped one
@@ -17,6 +18,6 @@ pub fn capi_share_points(points: u32, wishes: &[u32], shares: &mut [u32], words:
 {
     hand_out(
         words,
-        of_filled(display::share_points(points, wishes, shares)),
+        fill_reply(display::share_points(points, wishes, shares)),
     )
 }

@@ -11,19 +11,16 @@ ghost use Rattle.capi.specs.Answer.{code_of, words_after, two};
 ghost use Rattle.capi.specs.Reply.{Says};
 ghost use Rattle.capi.specs.ShownLists.{list_of, none_plan, list_called, entries_after};
 
-use super::{Reply, accept, decline, hand_out, need};
-use display::{Change, Shown, ShownAnswer};
+use super::words::need;
+use super::{Reply, accept, decline, hand_out};
+use display::{Shown, ShownAnswer};
 
-// Puts entries into a buffer from place 0 on.
-fn put_entries(list: &mut [u32], entries: &[u32])
-    requires { length entries.now ≤ length list.old }
+// Puts a list's entries into a buffer from place 0 on.
+fn put_entries(list: &mut [u32], entries: &[u32; 64])
+    requires { 64 ≤ length list.old }
     ensures { list.new ≡ entries.now onto list.old }
 {
-    let mut i = 0;
-    while i < entries.len() {
-        list[i] = entries[i];
-        i += 1;
-    }
+    list[..64].copy_from_slice(entries);
 }
 
 fn list_of(list: &[u32], count: u32, total: u64) -> Shown
@@ -31,7 +28,7 @@ fn list_of(list: &[u32], count: u32, total: u64) -> Shown
     ensures { result ≡ list_of list.now count total }
 {
     let mut entries = [0u32; 64];
-    put_entries(&mut entries, &list[..64]);
+    entries.copy_from_slice(&list[..64]);
     Shown {
         entries,
         count,
@@ -45,8 +42,7 @@ fn put_list(shown: Shown, list: &mut [u32]) -> Reply
     ensures answer { Says result (accepted (two (shown.count, shown.total))) }
     ensures buffer { list.new ≡ shown.entries onto list.old }
 {
-    let entries = shown.entries;
-    put_entries(list, &entries);
+    put_entries(list, &shown.entries);
     accept(&[shown.count as u64, shown.total])
 }
 
@@ -56,10 +52,9 @@ fn of_shown(x: ShownAnswer, list: &mut [u32]) -> Reply
     ensures buffer { list.new
         ≡ entries_after (change_says x.answer) x.shown list.old }
 {
-    let answer = x.answer;
-    match answer {
-        Change::Changed => put_list(x.shown, list),
-        Change::Declined(k) => decline(k),
+    match x.answer {
+        Ok(()) => put_list(x.shown, list),
+        Err(refusal) => decline(refusal),
     }
 }
 
@@ -70,7 +65,7 @@ pub fn capi_none_shown(list: &mut [u32], words: &mut [u64]) -> i64
     ensures buffers { list.new ∷ [] ≡ buffers_after (accepted none_plan) (at_entry (list ∷ [])) }
 {
     if list.len() < 64 {
-        return hand_out(words, need(&[64]));
+        return hand_out(words, need(64_usize));
     }
     hand_out(words, put_list(display::none_shown(), list))
 }
@@ -94,7 +89,7 @@ pub fn capi_show(
         (at_entry (list ∷ [])) }
 {
     if list.len() < 64 {
-        return hand_out(words, need(&[64]));
+        return hand_out(words, need(64_usize));
     }
     let answer = display::show(list_of(list, count, total), number, records);
     hand_out(words, of_shown(answer, list))
@@ -119,7 +114,7 @@ pub fn capi_hide(
         (at_entry (list ∷ [])) }
 {
     if list.len() < 64 {
-        return hand_out(words, need(&[64]));
+        return hand_out(words, need(64_usize));
     }
     let answer = display::hide(list_of(list, count, total), number, records);
     hand_out(words, of_shown(answer, list))

@@ -1,15 +1,17 @@
 // The viewer's small calls. A layout, a pair and a projection come as their raw numbers, an eye as 0 for the left one.
+// The numbers that C has are written here, variant by variant: a cast would follow the order of the declarations in
+// `payload`, where a projection's is another. And no `From` fits: `impl From<u32> for Eye` has no type of this crate.
 ghost use Rattle.std.specs.Prelude.{◌≡◌, map, pos};
 ghost use Rattle.bits.specs.Verdict.{accepted};
 ghost use Rattle.bits.specs.Float.{bits_of};
 ghost use Rattle.payload.specs.View.{layout_of, pair_of, projection_of, windowed, panoramic, patch_of};
 ghost use Rattle.payload.specs.View.{window_of, mix_of, fov_for_zoom, zoom_for_fov};
 ghost use Rattle.capi.specs.Answer.{code_of, words_after, truth};
-ghost use Rattle.capi.specs.Reply.{Says};
 ghost use Rattle.capi.specs.Values.{layout_number, pair_number, projection_number, eye_of, patch_words};
 
-use super::{Reply, accept, flag, hand_out, side_words, word};
-use payload::{AnaglyphPair, Eye, Patch, Projection, StereoLayout};
+use super::words::Words;
+use super::{accept, flag, hand_out, word};
+use payload::{AnaglyphPair, Eye, Projection, StereoLayout};
 
 pub fn capi_layout_from_raw(v: u32) -> i64
     ensures { result ≡ pos (layout_number (layout_of v)) }
@@ -56,30 +58,18 @@ pub fn capi_is_panoramic(projection: u32) -> i64
     flag(Projection::from_raw(projection).is_panoramic())
 }
 
-fn of_patch(x: Patch) -> Reply
-    ensures { Says result (accepted (patch_words x)) }
-{
-    match x {
-        Patch::Sphere(b) => accept(&side_words(b)),
-        Patch::Nothing => accept(&[]),
-    }
-}
-
 pub fn capi_projection_bounds(projection: u32, words: &mut [u64]) -> i64
     ensures answer { result ≡ code_of (accepted (patch_words (patch_of (projection_of projection)))) }
     ensures words { words.new
         ≡ words_after words.old (accepted (patch_words (patch_of (projection_of projection)))) }
 {
-    hand_out(words, of_patch(Projection::from_raw(projection).bounds()))
+    hand_out(words, Projection::from_raw(projection).bounds().accept())
 }
 
 fn eye_of(v: u32) -> Eye
     ensures { result ≡ eye_of v }
 {
-    if v == 0 {
-        return Eye::Left;
-    }
-    Eye::Right
+    if v == 0 { Eye::Left } else { Eye::Right }
 }
 
 pub fn capi_uv_window(layout: u32, eye: u32, words: &mut [u64]) -> i64
@@ -88,10 +78,7 @@ pub fn capi_uv_window(layout: u32, eye: u32, words: &mut [u64]) -> i64
         ≡ words_after words.old (accepted (map bits_of (window_of (layout_of layout) (eye_of eye)))) }
 {
     let w = payload::uv_window(StereoLayout::from_raw(layout), eye_of(eye));
-    hand_out(
-        words,
-        accept(&[word(w[0]), word(w[1]), word(w[2]), word(w[3])]),
-    )
+    hand_out(words, accept(&w.map(word)))
 }
 
 pub fn capi_anaglyph_mix(pair: u32, eye: u32, words: &mut [u64]) -> i64
@@ -100,7 +87,7 @@ pub fn capi_anaglyph_mix(pair: u32, eye: u32, words: &mut [u64]) -> i64
         ≡ words_after words.old (accepted (map bits_of (mix_of (pair_of pair) (eye_of eye)))) }
 {
     let m = payload::anaglyph_mix(AnaglyphPair::from_raw(pair), eye_of(eye));
-    hand_out(words, accept(&[word(m[0]), word(m[1]), word(m[2])]))
+    hand_out(words, accept(&m.map(word)))
 }
 
 pub fn capi_fov_for_zoom(zoom: f32) -> i64

@@ -1,4 +1,5 @@
--- An answer as one number: a refusal below 0, a count that fits, one that does not, and a number handed on. Assumes nothing.
+-- An answer as one number: a refusal below 0, a count that fits, one that does not, and a number handed on. Assumes
+-- nothing.
 use mathlib.Core.Path.{◌≡◌, ap, ◌∙◌}
 use Prim.Native.Nat.{ℕ, ◌^◌, ◌≤◌, ◌<◌}
 use native.Mathlib.Omega.{arith}

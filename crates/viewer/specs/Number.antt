@@ -10,6 +10,6 @@ number (accepted n) = cond (leb n (2 ^ 63 - 1)) (pos n) (negsuc 13)
 number (needs l) = negsuc 11
 number (declined k) = neg_ℤ (pos k)
 
--- for the private step from a measured list to its points
+-- for the step from a measured list to its points
 abbrev pub points_of : MeshListSize → ℕ
 points_of n = n.points

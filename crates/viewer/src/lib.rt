@@ -3,39 +3,23 @@
 #![tactic(auto)]
 
 ghost use Rattle.std.specs.Prelude.{◌≡◌};
-ghost use Rattle.bits.specs.Verdict.{mapped};
+ghost use Rattle.bits.specs.Verdict.{limited, mapped};
 ghost use Rattle.payload.specs.Count.{counted_says, vertex_count, index_count, cubemap_vertex_count};
 ghost use Rattle.payload.specs.Count.{cubemap_index_count};
-ghost use Rattle.bits.specs.Verdict.{limited};
 ghost use Rattle.payload.specs.MeshRead.{read_meshes};
 ghost use Rattle.payload.specs.MeshDrawing.{point_total};
-ghost use Rattle.payload.specs.Meshes.{measured_says};
-ghost use Rattle.viewer.specs.Number.{number, points_of};
+ghost use Rattle.viewer.specs.Number.{number};
 
-use payload::{Counted, Measured};
+use bits::Refusal;
 
-// A count; -14 from 2^63 on.
-fn of_count(x: Counted) -> i64
-    ensures { result ≡ number (counted_says x) }
+// A count as it is, and -14 from 2^63 on; a refusal as its number, negative.
+fn number(answer: Result<u64, Refusal>) -> i64
+    ensures { result ≡ number (counted_says answer) }
 {
-    match x {
-        Counted::Declined(k) => -(k as i64),
-        Counted::Count(n) => {
-            if 0x7fff_ffff_ffff_ffff < n {
-                return -14;
-            }
-            n as i64
-        }
-    }
-}
-
-// How many points a mesh list has.
-fn of_measured(x: Measured) -> i64
-    ensures { result ≡ number (mapped points_of (measured_says x)) }
-{
-    match x {
-        Measured::Declined(k) => -(k as i64),
-        Measured::Size(n) => of_count(Counted::Count(n.points as u64)),
+    match answer {
+        Ok(n) if n <= i64::MAX as u64 => n as i64,
+        Ok(_) => -14,
+        Err(refusal) => -(refusal.number() as i64),
     }
 }
 
@@ -43,28 +27,28 @@ fn of_measured(x: Measured) -> i64
 pub extern "C" fn hoodsorrel_vertex_count(rings: u32, sectors: u32) -> i64
     ensures { result ≡ number (vertex_count rings sectors) }
 {
-    of_count(payload::vertex_count(rings, sectors))
+    number(payload::vertex_count(rings, sectors))
 }
 
 #[unsafe(no_mangle)]
 pub extern "C" fn hoodsorrel_index_count(rings: u32, sectors: u32) -> i64
     ensures { result ≡ number (index_count rings sectors) }
 {
-    of_count(payload::index_count(rings, sectors))
+    number(payload::index_count(rings, sectors))
 }
 
 #[unsafe(no_mangle)]
 pub extern "C" fn hoodsorrel_cubemap_vertex_count(cells: u32) -> i64
     ensures { result ≡ number (cubemap_vertex_count cells) }
 {
-    of_count(payload::cubemap_vertex_count(cells))
+    number(payload::cubemap_vertex_count(cells))
 }
 
 #[unsafe(no_mangle)]
 pub extern "C" fn hoodsorrel_cubemap_index_count(cells: u32) -> i64
     ensures { result ≡ number (cubemap_index_count cells) }
 {
-    of_count(payload::cubemap_index_count(cells))
+    number(payload::cubemap_index_count(cells))
 }
 
 #[unsafe(no_mangle)]
@@ -72,5 +56,5 @@ pub extern "C" fn hoodsorrel_measure_meshes(payload: &[u8]) -> i64
     ensures { result
         ≡ number (limited payload.now (mapped point_total (read_meshes payload.now))) }
 {
-    of_measured(payload::measure_meshes(payload))
+    number(payload::measure_meshes(payload).map(|size| size.points as u64))
 }

@@ -1,45 +1,40 @@
--- `sum_fields` meets its contract. The loop's invariant: the sum so far, joined with the total from here, is the total from the start. Assumes nothing.
-use Rattle.std.proofs.Common.{ℕ, ◌-◌, sym, ap, ◌∙◌, arith}
+-- `sum_fields` meets its contract, field by field. Assumes nothing.
+use Rattle.std.proofs.Common.{ℕ, ◌+◌, ◌-◌, ◌%◌, ◌^◌, sym, ap, ◌∙◌, arith}
 use Rattle.bits.specs.Verdict.{mapped}
-use Rattle.bits.specs.Read.{field_says}
-use Rattle.capi.specs.Total.{total_at}
-use Rattle.capi.proofs.Handed.{said}
-use Rattle.capi.proofs.Totals.{joined, joined-none, total_on, total_refused, total_done}
+use Rattle.bits.proofs.SaysLaws.{passed}
+use Rattle.bits.proofs.VerdictLaws.{width_yes, width_no}
+use Rattle.capi.specs.Answer.{one}
+use Rattle.capi.specs.Total.{wrapped}
+use Rattle.capi.proofs.Totals.{total, total_on, total_refused, total_done}
 use Rattle.capi.proofs.fields.sum_fields.Goals as goal
 
-pub loop-left-init : goal.loop-left-init
-loop-left-init c =
-    let a = c.args in
-    (omega arith, joined-none (total_at a.s.now a.width a.count 0))
+pub returns-then-width-gt32 : goal.returns-then-width-gt32
+returns-then-width-gt32 c = ap (mapped wrapped) (sym (width_no _ _ c.if-width-gt32.true))
 
-pub loop-left-preserved : goal.loop-left-preserved
-loop-left-preserved c =
-    let a = c.args in
-    let l = c.loop-left in
-    let v = c.in-Value.v in
-    let next = c.in-Value.c.bit in
-    let e = sym c.read.ensures ∙ ap field_says c.in-Value.is in (
-      c.wrapping_add_u64-sum.type_inv,
-      l.invariant.1 ∙ total_on a.s.now a.width l.left l.bit l.sum (omega arith) v next e
-          ∙ ap (λ (k : ℕ). mapped (joined k) (total_at a.s.now a.width (l.left - 1) next)) (sym c.wrapping_add_u64-sum.ensures.value),
-    )
+pub returns-in_err-value : goal.returns-in_err-value
+returns-in_err-value c =
+    let s = c.args.s.now in
+    let w = c.args.width in
+    let l = c.loop in
+    let left = c.args.count - l.counter in
+    let e = l.invariant ∙ total_refused s w left l.here.bit l.sum (omega arith) _ (sym c.in_err-value.ensures) in
+    passed one _ _ c.from_residual.ensures.1 ∙ sym e ∙ ap (mapped wrapped) (sym (width_yes _ _ c.if-width-gt32.false))
 
-pub returns-in-Short : goal.returns-in-Short
-returns-in-Short c =
-    let a = c.args in
-    let l = c.loop-left in
-    let e = sym c.read.ensures ∙ ap field_says c.in-Short.is in
-    said c.decline.ensures (sym (l.invariant.1 ∙ total_refused a.s.now a.width l.left l.bit l.sum (omega arith) 3 e))
-
-pub returns-in-TooWide : goal.returns-in-TooWide
-returns-in-TooWide c =
-    let a = c.args in
-    let l = c.loop-left in
-    let e = sym c.read.ensures ∙ ap field_says c.in-TooWide.is in
-    said c.decline-in-TooWide.ensures (sym (l.invariant.1 ∙ total_refused a.s.now a.width l.left l.bit l.sum (omega arith) 16 e))
+pub loop-preserved : goal.loop-preserved
+loop-preserved c =
+    let s = c.args.s.now in
+    let w = c.args.width in
+    let l = c.loop in
+    let left = c.args.count - l.counter in
+    let v = c.in_ok-value in
+    l.invariant
+    ∙ total_on s w left l.here.bit l.sum (omega arith) v.value v.next.bit (sym v.ensures)
+    ∙ ap (λ (n : ℕ). total s w n v.next.bit ((l.sum + v.value) % 2 ^ 64)) (omega arith)
 
 pub returns : goal.returns
 returns c =
-    let a = c.args in
-    let l = c.loop-left in
-    said c.accept.ensures (sym (l.invariant.1 ∙ total_done a.s.now a.width l.left l.bit l.sum l.invariant.0 (omega arith)))
+    let l = c.loop in
+    let left = c.args.count - l.counter in
+    let e = l.invariant
+    ∙ total_done c.args.s.now c.args.width left l.here.bit l.sum l.auto.sum-fits.fits (omega arith) in
+    sym e ∙ ap (mapped wrapped) (sym (width_yes _ _ c.if-width-gt32.false))

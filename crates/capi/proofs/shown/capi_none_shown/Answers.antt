@@ -7,12 +7,15 @@ use Rattle.capi.proofs.shown.capi_none_shown.Goals as goal
 pub returns-then-list-lt64 : goal.returns-then-list-lt64
 returns-then-list-lt64 c =
     let l = c.args.list.now in
-    let h = handed _ c.hand_out.type_inv (c.hand_out.ensures.answer, c.hand_out.ensures.words) c.need.ensures
-    (none_few_said l (omega arith)) in record { answer = h.0; words = h.1; buffers = none_few_left l (omega arith) }
+    let h = c.hand_out in
+    let r = handed _ h.type_inv h.ensures.answer h.ensures.words c.need.ensures (none_few_said l (omega arith)) in
+    record { answer = r.0; words = r.1; buffers = none_few_left l (omega arith) }
 
 pub returns : goal.returns
 returns c =
     let l = c.args.list.now in
+    let h = c.hand_out-2 in
     let e = c.none_shown.ensures in
-    let h = handed _ c.hand_out-2.type_inv (c.hand_out-2.ensures.answer, c.hand_out-2.ensures.words) c.put_list.ensures.answer
-    (none_said l (omega arith) _ e) in record { answer = h.0; words = h.1; buffers = none_left l (omega arith) _ e _ c.put_list.ensures.buffer }
+    let p = c.put_list.ensures in
+    let r = handed _ h.type_inv h.ensures.answer h.ensures.words p.answer (none_said l (omega arith) _ e) in
+    record { answer = r.0; words = r.1; buffers = none_left l (omega arith) _ e _ p.buffer }

@@ -8,17 +8,22 @@ use Rattle.capi.proofs.shown.capi_show.Goals as goal
 pub returns-then-list-lt64 : goal.returns-then-list-lt64
 returns-then-list-lt64 c =
     let a = c.args in
-    let said = few_said a.records.now a.list.now a.count a.total (showing a.number) (omega arith) in
-    let left = few_left a.records.now a.list.now a.count a.total (showing a.number) (omega arith) in
-    let h = handed _ c.hand_out.type_inv (c.hand_out.ensures.answer, c.hand_out.ensures.words) c.need.ensures said in record { answer = h.0; words = h.1; buffers = left }
+    let q = showing a.number in
+    let h = c.hand_out in
+    let said = few_said a.records.now a.list.now a.count a.total q (omega arith) in
+    let r = handed _ h.type_inv h.ensures.answer h.ensures.words c.need.ensures said in
+    let left = few_left a.records.now a.list.now a.count a.total q (omega arith) in
+    record { answer = r.0; words = r.1; buffers = left }
 
 pub returns : goal.returns
 returns c =
     let a = c.args in
-    let e = c.list_of.ensures in
     let q = showing a.number in
-    let said = list_said a.records.now a.list.now a.count a.total q (omega arith) _ e _ _
-    (c.show-answer.ensures.answer, c.show-answer.ensures.list) in
-    let left = list_left a.records.now a.list.now a.count a.total q (omega arith) _ e _ _
-    (c.show-answer.ensures.answer, c.show-answer.ensures.list) _ c.of_shown.ensures.buffer in
-    let h = handed _ c.hand_out-2.type_inv (c.hand_out-2.ensures.answer, c.hand_out-2.ensures.words) c.of_shown.ensures.answer said in record { answer = h.0; words = h.1; buffers = left }
+    let h = c.hand_out-2 in
+    let e = c.list_of.ensures in
+    let d = c.show-answer.ensures in
+    let s = c.of_shown.ensures in
+    let said = list_said a.records.now a.list.now a.count a.total q (omega arith) _ e _ _ d.answer d.list in
+    let r = handed _ h.type_inv h.ensures.answer h.ensures.words s.answer said in
+    let left = list_left a.records.now a.list.now a.count a.total q (omega arith) _ e _ _ d.answer d.list _ s.buffer in
+    record { answer = r.0; words = r.1; buffers = left }

@@ -1,8 +1,0 @@
--- `capi_look_up` meets its contract. Assumes nothing.
-use Rattle.capi.specs.Answer.{one}
-use Rattle.capi.proofs.Handed.{handed_with}
-use Rattle.capi.proofs.alignment_calls.capi_look_up.Goals as goal
-
-pub returns : goal.returns
-returns c = let r = handed_with _ one c.hand_out.type_inv (c.hand_out.ensures.answer, c.hand_out.ensures.words) c.of_look_up.ensures
-    (c.look_up.ensures.answer, c.look_up.ensures.buffers) in record { answer = r.0; words = r.1.0; buffers = r.1.1 }

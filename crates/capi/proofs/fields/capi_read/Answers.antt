@@ -1,7 +1,0 @@
--- `capi_read` meets its contract. Assumes nothing.
-use Rattle.capi.specs.Answer.{two}
-use Rattle.capi.proofs.Handed.{handed_mapped}
-use Rattle.capi.proofs.fields.capi_read.Goals as goal
-
-pub returns : goal.returns
-returns c = let r = handed_mapped _ two c.hand_out.type_inv (c.hand_out.ensures.answer, c.hand_out.ensures.words) c.of_field.ensures c.read.ensures in record { answer = r.0; words = r.1 }

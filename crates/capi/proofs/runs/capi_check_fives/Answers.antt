@@ -1,8 +1,0 @@
--- `capi_check_fives` meets its contract. Assumes nothing.
-use Rattle.bits.specs.Verdict.{mapped}
-use Rattle.capi.specs.Answer.{code_of, none}
-use Rattle.capi.proofs.Handed.{passed}
-use Rattle.capi.proofs.runs.capi_check_fives.Goals as goal
-
-pub returns : goal.returns
-returns c = passed (λ v. code_of (mapped none v)) c.of_check.type_inv c.of_check.ensures c.check_fives.ensures.answer

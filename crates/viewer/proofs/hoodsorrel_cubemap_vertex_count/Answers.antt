@@ -1,6 +1,0 @@
--- `hoodsorrel_cubemap_vertex_count` meets its contract. Assumes nothing.
-use Rattle.viewer.proofs.NumberLaws.{handed}
-use Rattle.viewer.proofs.hoodsorrel_cubemap_vertex_count.Goals as goal
-
-pub returns : goal.returns
-returns c = handed c.of_count.result _ _ c.of_count.type_inv c.of_count.ensures c.cubemap_vertex_count.ensures
