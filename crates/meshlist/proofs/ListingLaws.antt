@@ -1,25 +1,31 @@
--- What the library's two calls say of a payload that is listed, and leave in the program's buffers: the records of 16,384
--- bytes always fit into 13,650 words, and the textures into 512. Assumes nothing.
+-- What the library's two calls say of a payload that is listed, and leave in the program's buffers: the records of
+-- 16,384 bytes always fit into 13,650 words, and the textures into 512. Assumes nothing.
 use Prim.Native.Nat.{ℕ, ◌*◌, ◌/◌, ◌≤◌, ◌<◌}
 use mathlib.Core.Path.{◌≡◌, refl, sym, ◌∙◌, ap}
 use mathlib.Core.Bool.{true}
 use mathlib.Core.List.{List, [], ◌∷◌}
+use Rattle.std.proofs.Common.{Result, Ok, Err, IsErrAnd}
 use native.Mathlib.Omega.{arith}
 use lib.ListN.{length}
 use lib.Dec.{leb}
 use borrow.Author.Tests.{le-leb, lt-leb}
 use Rattle.bits.specs.Verdict.{Verdict, accepted, needs, declined, mapped, limited}
+use Rattle.bits.specs.declared.refusals.FillError.{FillError}
+use Rattle.bits.specs.declared.refusals.FillError.TheVariants as F
 use Rattle.bits.proofs.VerdictLaws.{clash, limited_yes}
 use Rattle.payload.specs.Lent.{◌onto◌, in_items, answer_for, buffers_after}
 use Rattle.payload.specs.Mesh.{Mesh}
 use Rattle.payload.specs.MeshRead.{read_meshes}
 use Rattle.payload.specs.MeshDrawing.{drawn_records, submesh_total}
-use Rattle.payload.specs.Meshes.{list_counts, recorded_meshes, records_plan}
+use Rattle.payload.specs.Meshes.{list_counts, recorded_meshes, records_plan, records_says}
 use Rattle.payload.specs.Textures.{list_textures, textures_found}
 use Rattle.payload.specs.TextureLaws.{TexturesOf}
+use Rattle.payload.specs.Fill.{filled_says}
+use Rattle.payload.specs.declared.mesh.records.ListCounts.{ListCounts}
 use Rattle.payload.proofs.LentLaws.{fit_answer, fit_after, refused}
 use Rattle.payload.proofs.Theorems.{list_fits, records-length, never_needs, textures-read}
-use Rattle.meshlist.specs.Listing.{listed, line_counts, listed_meshes, listing_plan}
+use Rattle.meshlist.specs.Listing.{listed, line_counts, listing, listed_meshes, listing_plan, listing_says}
+use Rattle.meshlist.specs.declared.listing.Listing.{Listing}
 
 -- more bytes than are listed
 pub too_long : (s : List ℕ) → 16384 < length s → listed s ≡ declined 2
@@ -61,7 +67,8 @@ module _ (s : List ℕ) (h : length s ≤ 16384) where
       unfolding textures_found
       found = ap (λ (v : Verdict (List Mesh)). in_items 2 (mapped list_textures v)) (listed_is ∙ e)
 
-      pub textures_told : answer_for (in_items 2 (textures_found s)) (textures ∷ []) ≡ accepted (length (list_textures l) / 2)
+      pub textures_told : answer_for (in_items 2 (textures_found s)) (textures ∷ [])
+          ≡ accepted (length (list_textures l) / 2)
       textures_told =
           fit_answer (in_items 2 (textures_found s)) (textures ∷ []) _ found (rw (textures_fit textures k) refl)
 
@@ -80,7 +87,7 @@ module _ (s : List ℕ) (h : length s ≤ 16384) where
   -- ---- what the records call says
 
   module _ (records : List ℕ) (k : 13650 ≤ length records) where
-    pub records_told : answer_for (records_plan s) (records ∷ []) ≡ mapped list_counts (listed s)
+    records_told : answer_for (records_plan s) (records ∷ []) ≡ mapped list_counts (listed s)
     unfolding answer_for
     records_told =
         ap (λ (v : Verdict (List Mesh)). answer_for (mapped recorded_meshes v) (records ∷ [])) listed_is
@@ -93,12 +100,12 @@ module _ (s : List ℕ) (h : length s ≤ 16384) where
         go (declined d) e = refl
 
     -- it is refused with the payload's number, and leaves its buffer
-    pub records_refused : (d : ℕ) → listed s ≡ declined d → buffers_after (records_plan s) (records ∷ []) ≡ records ∷ []
+    records_refused : (d : ℕ) → listed s ≡ declined d → buffers_after (records_plan s) (records ∷ []) ≡ records ∷ []
     records_refused d e =
         sym (refused (records_plan s) (records ∷ []) d (ap (mapped recorded_meshes) (listed_is ∙ e))).1
 
   -- it never asks for more words
-  pub never_more : (l : List ℕ) → mapped list_counts (listed s) ≡ needs l → ⊥
+  never_more : (l : List ℕ) → mapped list_counts (listed s) ≡ needs l → ⊥
   never_more l e = never_needs s l (sym (limited_yes s (read_meshes s) (omega arith)) ∙ listed_is ∙ go (listed s) e)
     where
       go : (v : Verdict (List Mesh)) → mapped list_counts v ≡ needs l → v ≡ needs l
@@ -108,17 +115,17 @@ module _ (s : List ℕ) (h : length s ≤ 16384) where
 
 -- ---- what its answer tells of the list
 
-pub record Counted (v : Verdict (List Mesh)) (m k p : ℕ) : Type 0 where
+pub record Counted (v : Verdict (List Mesh)) (n : ListCounts) : Type 0 where
   pub meshes : List Mesh
   pub read : v ≡ accepted meshes
-  pub counts : (m, k, p) ≡ list_counts meshes
+  pub counts : (n.meshes, n.submeshes, n.points) ≡ list_counts meshes
 
-pub counted : (v : Verdict (List Mesh)) (m k p : ℕ) → accepted (m, k, p) ≡ mapped list_counts v → Counted v m k p
-counted (accepted l) m k p e = record { meshes = l; read = refl; counts = cc }
-counted (needs l) m k p e = clash (cc)
-counted (declined d) m k p e = clash (cc)
+counted : (v : Verdict (List Mesh)) (n : ListCounts) → records_says (Ok n) ≡ mapped list_counts v → Counted v n
+counted (accepted l) n e = record { meshes = l; read = refl; counts = cc }
+counted (needs l) n e = clash (cc)
+counted (declined d) n e = clash (cc)
 
-pub declined_so : (v : Verdict (List Mesh)) (d : ℕ) → declined d ≡ mapped list_counts v → v ≡ declined d
+declined_so : (v : Verdict (List Mesh)) (d : ℕ) → declined d ≡ mapped list_counts v → v ≡ declined d
 declined_so (accepted l) d e = clash (cc)
 declined_so (needs l) d e = clash (cc)
 declined_so (declined k) d e = let i : k ≡ d = cc in ap declined i
@@ -134,3 +141,40 @@ joined {a} {b} {c} {d} e f =
     let i : a ≡ c = cc in
     let j : b ≡ d = cc in
     rw (i, j)
+
+-- a refusal that is handed on
+handed_on : (r : Result Listing (FillError ℕ)) (e : FillError ℕ) → IsErrAnd r (λ x. x ≡ e)
+    → listing_says r ≡ listing_says (Err e)
+handed_on (Ok x) e p = absurd p
+handed_on (Err x) e p = ap (λ (y : FillError ℕ). listing_says (Err y)) p
+
+-- no refusal
+pub accepted_so : (e : FillError ℕ) (n : ℕ) → filled_says (Err e) ≡ accepted n → ⊥
+accepted_so (F.Refused r) n i = clash (cc)
+accepted_so (F.Needs k) n i = clash (cc)
+
+module _ (s : List ℕ) (h : length s ≤ 16384) (records : List ℕ) (k : 13650 ≤ length records) where
+  pub told : (n : ListCounts) → records_says (Ok n) ≡ answer_for (records_plan s) (records ∷ [])
+      → Counted (listed s) n
+  told n e = counted (listed s) n (e ∙ records_told s h records k)
+
+  module _ (e : FillError ℕ) (said : records_says (Err e) ≡ answer_for (records_plan s) (records ∷ [])) where
+    pub refused_so : (r : Result Listing (FillError ℕ)) → IsErrAnd r (λ x. x ≡ e) → listing_says r ≡ listing s
+    refused_so r p = handed_on r e p ∙ go e (said ∙ records_told s h records k)
+      where
+        go : (e : FillError ℕ) → records_says (Err e) ≡ mapped list_counts (listed s)
+            → listing_says (Err e) ≡ listing s
+        go (F.Refused d) i = sym (ap (mapped line_counts) (declined_so (listed s) _ i))
+        go (F.Needs n) i = absurd (never_more s h _ (sym i))
+
+    pub refused_left : (left textures : List ℕ) → left ∷ [] ≡ buffers_after (records_plan s) (records ∷ [])
+        → left ∷ textures ∷ [] ≡ buffers_after (listing_plan s) (records ∷ textures ∷ [])
+    refused_left left textures f = go e (said ∙ records_told s h records k)
+      where
+        go : (e : FillError ℕ) → records_says (Err e) ≡ mapped list_counts (listed s)
+            → left ∷ textures ∷ [] ≡ buffers_after (listing_plan s) (records ∷ textures ∷ [])
+        go (F.Refused d) i =
+            let declines = declined_so (listed s) _ i in
+            joined (f ∙ records_refused s h records k _ declines) refl
+            ∙ (refused (listing_plan s) (records ∷ textures ∷ []) _ (ap (mapped listed_meshes) declines)).1
+        go (F.Needs n) i = absurd (never_more s h _ (sym i))

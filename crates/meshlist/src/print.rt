@@ -1,57 +1,42 @@
 // Lines of text, all but the last on standard output. Each function fails where not all of it was written.
+use bits::Refusal;
+use payload::ListCounts;
 use std::io;
 
-fn print_number(rt: &impl Print, n: u64, after: char) -> io::Result<()> {
-    print!(rt; "{n}{after}")
+// A line for each record, of five words.
+fn print_records(rt: &impl Print, records: &[u32]) -> io::Result<()> {
+    for [eye, texture, mode, first, points] in records.as_chunks::<5>().0 {
+        println!(rt; "{eye} {texture} {mode} {first} {points}")?;
+    }
+    Ok(())
 }
 
-fn print_word(rt: &impl Print, n: u32, after: char) -> io::Result<()> {
-    print_number(rt, n as u64, after)
+// A line for each texture, with the points of its records together.
+fn print_textures(rt: &impl Print, textures: &[u32]) -> io::Result<()> {
+    for [texture, points] in textures.as_chunks::<2>().0 {
+        println!(rt; "texture {texture} points {points}")?;
+    }
+    Ok(())
 }
 
-pub fn print_heading(rt: &impl Print) -> io::Result<()> {
-    println!(rt; "eye texture mode first points")
-}
-
-// A record on a line of its own.
-pub fn print_record(
+// The heading, the records, the textures and the totals.
+pub fn print_lines(
     rt: &impl Print,
-    eye: u32,
-    texture: u32,
-    mode: u32,
-    first: u32,
-    points: u32,
+    counts: ListCounts,
+    records: &[u32],
+    textures: &[u32],
 ) -> io::Result<()> {
-    print_word(rt, eye, ' ')?;
-    print_word(rt, texture, ' ')?;
-    print_word(rt, mode, ' ')?;
-    print_word(rt, first, ' ')?;
-    print_word(rt, points, '\n')
+    println!(rt; "eye texture mode first points")?;
+    print_records(rt, records)?;
+    print_textures(rt, textures)?;
+    println!(rt;
+        "total {} {} {}",
+        counts.meshes, counts.submeshes, counts.points
+    )
 }
 
-// A texture and the points of its records together.
-pub fn print_texture(rt: &impl Print, texture: u32, points: u32) -> io::Result<()> {
-    print!(rt; "texture ")?;
-    print_word(rt, texture, ' ')?;
-    print!(rt; "points ")?;
-    print_word(rt, points, '\n')
-}
-
-pub fn print_total(
-    rt: &impl Print,
-    meshes: usize,
-    submeshes: usize,
-    points: usize,
-) -> io::Result<()> {
-    print!(rt; "total ")?;
-    print_number(rt, meshes as u64, ' ')?;
-    print_number(rt, submeshes as u64, ' ')?;
-    print_number(rt, points as u64, '\n')
-}
-
-pub fn print_refusal(rt: &impl Print, number: u8) -> io::Result<()> {
-    print!(rt; "refused ")?;
-    print_number(rt, number as u64, '\n')
+pub fn print_refusal(rt: &impl Print, refusal: Refusal) -> io::Result<()> {
+    println!(rt; "refused {}", refusal.number())
 }
 
 // How the program is used, on standard error.

@@ -1,13 +1,18 @@
-// The calls, by what they are lent. lend_.. makes buffers of the lengths that are asked for, answer_.. makes the
-// words, has the call made and sums up what was lent, and call_.. chooses the call. Before a call every lent item
-// holds bytes a5.
-ghost use Rattle.std.specs.Prelude.{◌≤◌};
+// The calls, by what they are lent. Before a call every lent item holds bytes a5. An answer sums up what was lent as
+// it is after the call: the words first, then the buffers. Which call is made goes by its number, since the list names
+// it so: a closure for each would say the same at greater length.
+ghost use Rattle.std.specs.Prelude.{◌≡◌};
+ghost use Rattle.std.specs.Int.{w64};
+ghost use Rattle.std.proofs.Common.{of_z};
+ghost use mathlib.Core.List.{flat_map};
+ghost use Rattle.bits.specs.Put.{bytes_of};
+ghost use Rattle.replay.specs.Sum.{fnv};
 
-mod arguments;
 mod byte_calls;
 mod counts;
 mod crops;
 mod fields;
+mod floats;
 mod grids;
 mod meshes;
 mod numbers;
@@ -20,231 +25,169 @@ mod shown;
 mod unpack;
 mod view;
 
+use crate::call_number::CallNumber;
+use crate::item::Item;
 use crate::sum;
-use arguments::{answer_bits, word};
+use capi::meshes::{capi_mesh_records, capi_parse_meshes, capi_texture_points};
+use capi::shown::capi_none_shown;
 
-// What a call answered, as 64 bits, and the sum of what it was lent; or that a length is above its bound.
-#[derive(Clone, Copy)]
-pub enum Outcome {
-    Answer(u64, u64),
-    Unreadable,
+// What a call answered, as 64 bits, and the sum of what it was lent.
+#[derive(Clone, Copy, PartialEq)]
+pub struct Answer {
+    pub code: u64,
+    pub sum: u64,
 }
 
-// The numbers of the calls are below this. 0 is that of a line that cannot be read.
-pub const CALLS: usize = 68;
+impl Answer {
+    // The answer of a call that was lent nothing.
+    fn new(code: i64) -> Answer
+        ensures code { result.code ≡ of_z w64 code }
+        ensures sum { result.sum ≡ 0x811c_9dc5 }
+    {
+        Answer {
+            code: code.cast_unsigned(),
+            sum: sum::EMPTY,
+        }
+    }
+
+    // The same answer with more that was lent.
+    fn with<T: Item>(self, lent: &[T]) -> Answer
+        ensures code { result.code ≡ self.code }
+        ensures sum { result.sum ≡ fnv self.sum (flat_map (λ x. bytes_of T.BYTES (T.value x)) lent.now) }
+    {
+        Answer {
+            code: self.code,
+            sum: sum::add_items(self.sum, lent),
+        }
+    }
+}
 
 // The words that are lent, as they are before a call.
-const WORDS: [u64; 8] = [0xa5a5_a5a5_a5a5_a5a5; 8];
+const WORDS: [u64; 8] = [u64::LENT; 8];
 
-// The calls that are lent nothing.
-fn call_unlent(call: usize, args: &[u64; 10], data: &[u8]) -> i64 {
-    match call {
-        0x15 => crops::is_usable(args),
-        0x1f => grids::padding_share(args),
-        0x35 | 0x36 => runs::check(call, args, data),
-        0x39 => byte_calls::word_of(args),
-        0..=0x14 => numbers::unlent(call, args),
-        _ => view::unlent(call, args),
+// A call of a line. Arguments that it has not are 0.
+#[derive(Clone, Copy)]
+pub struct Call<'a> {
+    pub number: CallNumber,
+    pub args: [u64; 10],
+    pub data: &'a [u8],
+}
+
+impl Call<'_> {
+    // The calls that are lent nothing.
+    fn unlent(&self) -> Answer {
+        Answer::new(match self.number.value {
+            0x15 => crops::is_usable(self),
+            0x1f => grids::padding_share(self),
+            0x35 | 0x36 => runs::check(self),
+            0x39 => byte_calls::word_of(self),
+            0..=0x14 => numbers::unlent(self),
+            _ => view::unlent(self),
+        })
     }
-}
 
-fn answer_unlent(call: usize, args: &[u64; 10], data: &[u8]) -> Outcome {
-    Outcome::Answer(answer_bits(call_unlent(call, args, data)), sum::EMPTY)
-}
-
-// The calls that are lent words alone.
-fn call_words(call: usize, args: &[u64; 10], data: &[u8], words: &mut [u64]) -> i64 {
-    match call {
-        0..=0x07 | 0x0b => byte_calls::worded(call, args, data, words),
-        0x08..=0x0a | 0x34 => fields::worded(call, args, data, words),
-        0x0d => numbers::stepped(args, words),
-        0x16 | 0x18 => crops::parse(call, data, words),
-        0x3d => crops::equi_crop(args, words),
-        0x20 | 0x3a => meshes::measure(call, data, words),
-        0x3b | 0x3c => grids::lengths(call, args, words),
-        0x26..=0x29 => counts::worded(call, args, words),
-        _ => view::worded(call, args, words),
+    // The calls that are lent words alone.
+    fn worded(&self) -> Answer {
+        let mut words = WORDS;
+        let code = match self.number.value {
+            0..=0x07 | 0x0b => byte_calls::worded(self, &mut words),
+            0x08..=0x0a | 0x34 => fields::worded(self, &mut words),
+            0x0d => numbers::stepped(self, &mut words),
+            0x16 | 0x18 => crops::parse(self, &mut words),
+            0x3d => crops::equi_crop(self, &mut words),
+            0x20 | 0x3a => meshes::measure(self, &mut words),
+            0x3b | 0x3c => grids::lengths(self, &mut words),
+            0x26..=0x29 => counts::worded(self, &mut words),
+            _ => view::worded(self, &mut words),
+        };
+        Answer::new(code).with(&words)
     }
-}
 
-fn answer_words(call: usize, args: &[u64; 10], data: &[u8]) -> Outcome {
-    let mut words = WORDS;
-    let r = call_words(call, args, data, &mut words);
-    Outcome::Answer(answer_bits(r), sum::of_words(&words))
-}
-
-// The calls that write bytes.
-fn call_out(call: usize, args: &[u64; 10], out: &mut [u8], words: &mut [u64]) -> i64 {
-    match call {
-        0x13 | 0x14 => put::write(call, args, out, words),
-        _ => crops::write(call, args, out, words),
+    // The calls that write bytes.
+    fn written(&self, length: u64) -> Option<Answer> {
+        let mut words = WORDS;
+        let mut room = [u8::LENT; 1024];
+        let out = room.get_mut(..length as usize)?;
+        let code = match self.number.value {
+            0x13 | 0x14 => put::write(self, out, &mut words),
+            _ => crops::write(self, out, &mut words),
+        };
+        Some(Answer::new(code).with(&words).with(out))
     }
-}
 
-fn answer_out(call: usize, args: &[u64; 10], out: &mut [u8]) -> Outcome {
-    let mut words = WORDS;
-    let r = call_out(call, args, out, &mut words);
-    Outcome::Answer(answer_bits(r), sum::add_u8s(sum::of_words(&words), out))
-}
-
-fn lend_out(call: usize, args: &[u64; 10], length: u64) -> Outcome {
-    if 1024 < length {
-        return Outcome::Unreadable;
+    // The calls that make numbers.
+    fn indexed(&self, length: u64) -> Option<Answer> {
+        let mut words = WORDS;
+        let mut room = [u16::LENT; 4096];
+        let out = room.get_mut(..length as usize)?;
+        let code = grids::indices(self, out, &mut words);
+        Some(Answer::new(code).with(&words).with(out))
     }
-    let n = length as usize;
-    let mut out = [0xa5u8; 1024];
-    answer_out(call, args, &mut out[..n])
-}
 
-// The calls that make numbers.
-fn answer_numbers(call: usize, args: &[u64; 10], out: &mut [u16]) -> Outcome {
-    let mut words = WORDS;
-    let r = grids::indices(call, args, out, &mut words);
-    Outcome::Answer(answer_bits(r), sum::add_u16s(sum::of_words(&words), out))
-}
-
-// The calls that hand out the numbers of a run, which are lent no words.
-fn answer_run(call: usize, args: &[u64; 10], data: &[u8], out: &mut [u16]) -> Outcome {
-    let r = runs::fill(call, args, data, out);
-    Outcome::Answer(answer_bits(r), sum::add_u16s(sum::EMPTY, out))
-}
-
-fn call_numbers(call: usize, args: &[u64; 10], data: &[u8], out: &mut [u16]) -> Outcome {
-    match call {
-        0x37 | 0x38 => answer_run(call, args, data, out),
-        _ => answer_numbers(call, args, out),
+    // The calls that hand out the numbers of a run, which are lent no words.
+    fn run(&self, length: u64) -> Option<Answer> {
+        let mut room = [u16::LENT; 4096];
+        let out = room.get_mut(..length as usize)?;
+        let code = runs::fill(self, out);
+        Some(Answer::new(code).with(out))
     }
-}
 
-fn lend_numbers(call: usize, args: &[u64; 10], data: &[u8], length: u64) -> Outcome {
-    if 4096 < length {
-        return Outcome::Unreadable;
+    // The calls that make floats, records, textures or an empty list alone, as many as there is room for at most.
+    fn tabled(&self, room: &mut [u32], length: u64) -> Option<Answer> {
+        let mut words = WORDS;
+        let out = room.get_mut(..length as usize)?;
+        let code = match self.number.value {
+            0x22 => capi_mesh_records(self.data, out, &mut words),
+            0x3f => capi_texture_points(self.data, out, &mut words),
+            0x40 => capi_none_shown(out, &mut words),
+            _ => grids::floats(self, out, &mut words),
+        };
+        Some(Answer::new(code).with(&words).with(out))
     }
-    let n = length as usize;
-    let mut out = [0xa5a5u16; 4096];
-    call_numbers(call, args, data, &mut out[..n])
-}
 
-// The calls that make floats, records, textures or an empty list alone.
-fn answer_u32s(call: usize, args: &[u64; 10], data: &[u8], out: &mut [u32]) -> Outcome {
-    let mut words = WORDS;
-    let r = call_u32s(call, args, data, out, &mut words);
-    Outcome::Answer(answer_bits(r), sum::add_u32s(sum::of_words(&words), out))
-}
-
-fn call_u32s(
-    call: usize,
-    args: &[u64; 10],
-    data: &[u8],
-    out: &mut [u32],
-    words: &mut [u64],
-) -> i64 {
-    match call {
-        0x22 => meshes::records(data, out, words),
-        0x3f => meshes::textures(data, out, words),
-        0x40 => shown::none_shown(out, words),
-        _ => grids::floats(call, args, out, words),
+    // The calls that make numbers, floats and records.
+    fn drawn(&self, number_length: u64, float_length: u64, record_length: u64) -> Option<Answer> {
+        let mut words = WORDS;
+        let mut number_room = [u16::LENT; 4096];
+        let mut float_room = [u32::LENT; 4096];
+        let mut record_room = [u32::LENT; 512];
+        let numbers = number_room.get_mut(..number_length as usize)?;
+        let floats = float_room.get_mut(..float_length as usize)?;
+        let records = record_room.get_mut(..record_length as usize)?;
+        let code = match self.number.value {
+            0x21 => capi_parse_meshes(self.data, numbers, floats, records, &mut words),
+            _ => scene_call::scene(self, numbers, floats, records, &mut words),
+        };
+        let answer = Answer::new(code).with(&words);
+        Some(answer.with(numbers).with(floats).with(records))
     }
-}
 
-fn lend_u32s(call: usize, args: &[u64; 10], data: &[u8], length: u64, most: u64) -> Outcome
-    requires { most ≤ 4096 }
-{
-    if most < length {
-        return Outcome::Unreadable;
-    }
-    let n = length as usize;
-    let mut out = [0xa5a5_a5a5u32; 4096];
-    answer_u32s(call, args, data, &mut out[..n])
-}
-
-// The calls that make numbers, floats and records.
-fn call_drawing(
-    call: usize,
-    args: &[u64; 10],
-    data: &[u8],
-    numbers: &mut [u16],
-    floats: &mut [u32],
-    records: &mut [u32],
-    words: &mut [u64],
-) -> i64 {
-    match call {
-        0x21 => meshes::parse(data, numbers, floats, records, words),
-        _ => scene_call::scene(args, data, numbers, floats, records, words),
-    }
-}
-
-fn answer_drawing(
-    call: usize,
-    args: &[u64; 10],
-    data: &[u8],
-    numbers: &mut [u16],
-    floats: &mut [u32],
-    records: &mut [u32],
-) -> Outcome {
-    let mut words = WORDS;
-    let r = call_drawing(call, args, data, numbers, floats, records, &mut words);
-    let a = sum::add_u16s(sum::of_words(&words), numbers);
-    let b = sum::add_u32s(a, floats);
-    Outcome::Answer(answer_bits(r), sum::add_u32s(b, records))
-}
-
-fn lend_drawing(
-    call: usize,
-    args: &[u64; 10],
-    data: &[u8],
-    number_length: u64,
-    float_length: u64,
-    record_length: u64,
-) -> Outcome {
-    if 4096 < number_length {
-        return Outcome::Unreadable;
-    }
-    if 4096 < float_length {
-        return Outcome::Unreadable;
-    }
-    if 512 < record_length {
-        return Outcome::Unreadable;
-    }
-    let n = number_length as usize;
-    let f = float_length as usize;
-    let k = record_length as usize;
-    let mut numbers = [0xa5a5u16; 4096];
-    let mut floats = [0xa5a5_a5a5u32; 4096];
-    let mut records = [0xa5a5_a5a5u32; 512];
-    answer_drawing(
-        call,
-        args,
-        data,
-        &mut numbers[..n],
-        &mut floats[..f],
-        &mut records[..k],
-    )
-}
-
-// Makes a call. Which argument is a length goes by the call.
-pub fn call(call: usize, args: &[u64; 10], data: &[u8]) -> Outcome {
-    match call {
-        0x13 | 0x14 => lend_out(call, args, args[0]),
-        0x17 => lend_out(call, args, args[4]),
-        0x19 => lend_out(call, args, args[1]),
-        0x1a | 0x38 => lend_numbers(call, args, data, args[2]),
-        0x1b => lend_numbers(call, args, data, args[6]),
-        0x1d => lend_numbers(call, args, data, args[1]),
-        0x37 => lend_numbers(call, args, data, args[3]),
-        0x1c => lend_u32s(call, args, data, args[2], 4096),
-        0x1e => lend_u32s(call, args, data, args[3], 4096),
-        0x22 | 0x3f | 0x40 => lend_u32s(call, args, data, args[0], 512),
-        0x21 => lend_drawing(call, args, data, args[0], args[1], args[2]),
-        0x25 => lend_drawing(call, args, data, args[6], args[7], args[8]),
-        0x23 | 0x24 => meshes::mesh_body(call, args, data),
-        0x3e => records::lend_triangles(data, args[0], args[1]),
-        0x41 | 0x42 => shown::lend_list(call, args, data, args[3], args[4], args[5]),
-        0x43 => shares::lend_shares(word(args[0]), data, args[1], args[2]),
-        0x0c | 0x0e..=0x12 | 0x15 | 0x1f | 0x2a | 0x2b | 0x2d | 0x2f | 0x30 | 0x32 | 0x33 => {
-            answer_unlent(call, args, data)
+    // Makes the call, where what it is to be lent has room. Which argument is a length goes by the call.
+    pub fn make(&self) -> Option<Answer> {
+        let args = &self.args;
+        match self.number.value {
+            0x13 | 0x14 => self.written(args[0]),
+            0x17 => self.written(args[4]),
+            0x19 => self.written(args[1]),
+            0x1a => self.indexed(args[2]),
+            0x1b => self.indexed(args[6]),
+            0x1d => self.indexed(args[1]),
+            0x37 => self.run(args[3]),
+            0x38 => self.run(args[2]),
+            0x1c => self.tabled(&mut [u32::LENT; 4096], args[2]),
+            0x1e => self.tabled(&mut [u32::LENT; 4096], args[3]),
+            0x22 | 0x3f | 0x40 => self.tabled(&mut [u32::LENT; 512], args[0]),
+            0x21 => self.drawn(args[0], args[1], args[2]),
+            0x25 => self.drawn(args[6], args[7], args[8]),
+            0x23 | 0x24 => meshes::body(self),
+            0x3e => records::triangles(self),
+            0x41 | 0x42 => shown::listed(self),
+            0x43 => shares::shared(self),
+            0x0c | 0x0e..=0x12 | 0x15 | 0x1f | 0x2a | 0x2b | 0x2d | 0x2f | 0x30 | 0x32 | 0x33 => {
+                Some(self.unlent())
+            }
+            0x35 | 0x36 | 0x39 => Some(self.unlent()),
+            _ => Some(self.worded()),
         }
-        0x35 | 0x36 | 0x39 => answer_unlent(call, args, data),
-        _ => answer_words(call, args, data),
     }
 }

@@ -1,30 +1,18 @@
 // A line of the list: its call, its arguments, its data, and the answer that is due.
-ghost use Rattle.std.specs.Prelude.{◌≡◌, ◌<◌, ◌≤◌, length};
-ghost use Rattle.replay.specs.Line.{call_numbers, read_call, read_length, judgement_call, judged};
+ghost use Rattle.std.specs.Prelude.{◌≡◌};
+ghost use Rattle.replay.specs.Line.{judged};
 
-use crate::calls::{CALLS, Outcome, call};
-use crate::text::{Bytes, Number, bytes_at, number_at};
+use crate::call_number::CallNumber;
+use crate::calls::{Answer, Call};
+use crate::text::Tokens;
 
-// A place of the line, or that an argument cannot be read.
-#[derive(Clone, Copy)]
-enum Place {
-    At(usize),
-    Bad,
-}
-
-// A line that can be read: the call, the length of its data, the due answer as 64 bits and the due sum.
-#[derive(Clone, Copy)]
-enum Reading {
-    Call(usize, usize, u64, u64),
-    Bad,
-}
-
-// What a line is, and its call: 0 where it cannot be read.
+// What a line is, and its call.
 #[derive(Clone, Copy)]
 pub enum Judgement {
     Comment,
-    Same(usize),
-    Different(usize),
+    Unreadable,
+    Same(CallNumber),
+    Different(CallNumber),
 }
 
 // How many arguments a call has.
@@ -52,136 +40,59 @@ fn wide_arguments(call: usize) -> usize {
     }
 }
 
-// Reads the arguments of a call from a place on. The first `wide` of them may have 64 bits.
-fn read_arguments(
-    line: &[u8],
-    from: usize,
-    count: u64,
-    wide: usize,
-    args: &mut [u64; 10],
-) -> Place {
-    let mut at = from;
-    let mut i: usize = 0;
-    while i < 10 {
-        if count <= i as u64 {
-            return Place::At(at);
-        }
-        match number_at(line, at) {
-            Number::Bad => {
-                return Place::Bad;
-            }
-            Number::Value(v, next) => {
-                if wide <= i {
-                    if 0xffff_ffff < v {
-                        return Place::Bad;
-                    }
-                }
-                args[i] = v;
-                at = next;
-                i += 1;
-            }
+// Reads the number of arguments, which has to be the call's, and the arguments. The first `wide` of them may have 64
+// bits.
+fn read_arguments(tokens: &mut Tokens, call: usize) -> Option<[u64; 10]> {
+    let count = tokens.number()?;
+    if count != argument_count(call) {
+        return None;
+    }
+    let wide = wide_arguments(call);
+    let mut args = [0; 10];
+    for (i, arg) in args.iter_mut().take(count as usize).enumerate() {
+        *arg = tokens.number()?;
+        if wide <= i && 0xffff_ffff < *arg {
+            return None;
         }
     }
-    Place::Bad
+    Some(args)
 }
 
-// Reads the data and the due answer from a place on.
-fn read_rest(line: &[u8], call: usize, at: usize, data: &mut [u8]) -> Reading
-    requires { call < call_numbers }
-    ensures { (read_call result < call_numbers) × (read_length result ≤ length «data».old) }
-{
-    match bytes_at(line, at, data) {
-        Bytes::Bad => Reading::Bad,
-        Bytes::Stored(n, after) => match number_at(line, after) {
-            Number::Bad => Reading::Bad,
-            Number::Value(code, last) => match number_at(line, last) {
-                Number::Bad => Reading::Bad,
-                Number::Value(sum, _) => Reading::Call(call, n, code, sum),
-            },
-        },
-    }
-}
-
-// Reads the number of arguments of a call, which has to be the call's, and all that comes after it.
-fn read_call(line: &[u8], call: usize, at: usize, args: &mut [u64; 10], data: &mut [u8]) -> Reading
-    requires { call < call_numbers }
-    ensures { (read_call result < call_numbers) × (read_length result ≤ length «data».old) }
-{
-    match number_at(line, at) {
-        Number::Bad => Reading::Bad,
-        Number::Value(count, next) => {
-            if count != argument_count(call) {
-                return Reading::Bad;
-            }
-            match read_arguments(line, next, count, wide_arguments(call), args) {
-                Place::Bad => Reading::Bad,
-                Place::At(after) => read_rest(line, call, after, data),
-            }
-        }
-    }
-}
-
-// Reads a line that is no comment.
-fn read_line(line: &[u8], args: &mut [u64; 10], data: &mut [u8]) -> Reading
-    ensures { (read_call result < call_numbers) × (read_length result ≤ length «data».old) }
-{
-    match number_at(line, 0) {
-        Number::Bad => Reading::Bad,
-        Number::Value(number, next) => {
-            if number == 0 {
-                return Reading::Bad;
-            }
-            if CALLS as u64 <= number {
-                return Reading::Bad;
-            }
-            read_call(line, number as usize, next, args, data)
-        }
-    }
+// Reads a line that is no comment. Its data is stored in the room.
+fn read_line<'a>(line: &[u8], room: &'a mut [u8]) -> Option<(Call<'a>, Answer)> {
+    let mut tokens = Tokens::of(line);
+    let number = CallNumber::new(tokens.number()?)?;
+    let args = read_arguments(&mut tokens, number.value)?;
+    let data = tokens.bytes(room)?;
+    let code = tokens.number()?;
+    let sum = tokens.number()?;
+    Some((Call { number, args, data }, Answer { code, sum }))
 }
 
 // Whether the outcome of a call is the due one.
 #[tactic(auto, unfolding(crate::specs::Line::judged))]
-fn compared(call: usize, code: u64, sum: u64, outcome: Outcome) -> Judgement
-    requires { call < call_numbers }
-    ensures value { result ≡ judged call code sum outcome }
-    ensures result_bound { judgement_call result < call_numbers }
+fn compared(call: CallNumber, due: Answer, made: Option<Answer>) -> Judgement
+    ensures { result ≡ judged call due made }
 {
-    match outcome {
-        Outcome::Unreadable => Judgement::Different(0),
-        Outcome::Answer(made, left) => {
-            if made != code {
-                return Judgement::Different(call);
-            }
-            if left != sum {
-                return Judgement::Different(call);
-            }
-            Judgement::Same(call)
-        }
+    match made {
+        None => Judgement::Unreadable,
+        Some(made) if made == due => Judgement::Same(call),
+        Some(_) => Judgement::Different(call),
     }
 }
 
 // Makes the call of a line again.
-fn replayed(line: &[u8]) -> Judgement
-    ensures { judgement_call result < call_numbers }
-{
-    let mut args = [0u64; 10];
-    let mut data = [0u8; 2048];
-    match read_line(line, &mut args, &mut data) {
-        Reading::Bad => Judgement::Different(0),
-        Reading::Call(number, n, code, sum) => {
-            compared(number, code, sum, call(number, &args, &data[..n]))
-        }
+fn replayed(line: &[u8]) -> Judgement {
+    let mut room = [0u8; 2048];
+    match read_line(line, &mut room) {
+        None => Judgement::Unreadable,
+        Some((call, due)) => compared(call.number, due, call.make()),
     }
 }
 
-pub fn judge(line: &[u8]) -> Judgement
-    ensures { judgement_call result < call_numbers }
-{
-    if line.len() == 0 {
-        return Judgement::Different(0);
+pub fn judge(line: &[u8]) -> Judgement {
+    match line.first() {
+        Some(b'#') => Judgement::Comment,
+        _ => replayed(line),
     }
-    if line[0] == b'#' {
-        return Judgement::Comment;
-    }
-    replayed(line)
 }

@@ -3,7 +3,9 @@
 // SUM NAME, or a comment that begins with #.
 #![tactic(auto)]
 
+mod call_number;
 mod calls;
+mod item;
 mod line;
 mod print;
 mod sum;
@@ -12,28 +14,44 @@ mod text;
 
 ghost use Rattle.std.specs.Prelude.{◌≤◌, IfOk, length};
 
-use std::io;
 use std::io::Read;
+use std::{fmt, io};
 
-// Reads until the input ends or the list is full, and answers how many bytes were read.
-fn read_list(reader: &mut impl Read, list: &mut [u8]) -> io::Result<usize>
-    ensures { IfOk result (λ n. n ≤ length list.new) }
-{
-    let mut n: usize = 0;
-    while n < list.len() {
-        let k = reader.read(&mut list[n..])?;
-        if k == 0 {
-            return Ok(n);
-        }
-        n += k;
-    }
-    Ok(n)
+// What failed.
+#[derive(Drop)]
+enum Failure {
+    Read(io::Error),
+    Write(io::Error),
 }
 
-// One read more. It answers 0 at the end of the input, and more where the list has no room.
-fn read_more(reader: &mut impl Read) -> io::Result<usize> {
+impl fmt::Display for Failure {
+    fn fmt<W: fmt::Write>(&self, f: &mut fmt::Formatter<W>) -> fmt::Result {
+        match self {
+            Failure::Read(error) => write!(f, "read: {error}"),
+            Failure::Write(error) => write!(f, "write: {error}"),
+        }
+    }
+}
+
+// Reads until the input ends or the list is full, and answers what was read.
+fn read_list<'a>(reader: &mut impl Read, list: &'a mut [u8]) -> io::Result<&'a [u8]>
+    ensures { IfOk result (λ read. length read.now ≤ length list.old) }
+{
+    let mut n = 0;
+    // no index is counted here: a turn goes on after what was read
+    while n < list.len() {
+        match reader.read(&mut list[n..])? {
+            0 => break,
+            k => n += k,
+        }
+    }
+    Ok(&list[..n])
+}
+
+// Whether the input goes on.
+fn has_more(reader: &mut impl Read) -> io::Result<bool> {
     let mut more = [0u8; 1];
-    reader.read(&mut more)
+    Ok(0 < reader.read(&mut more)?)
 }
 
 // Room for a list, made apart so that a proof of its caller sees a list of 1,048,576 bytes and not so many zeros.
@@ -41,32 +59,19 @@ fn room() -> [u8; 1048576] {
     [0; 1048576]
 }
 
-// Replays a list that is whole: after its first n bytes as many came as `more` says.
-fn replay_whole(rt: &impl Print, list: &[u8], more: usize) -> io::Result<()> {
-    if 0 < more {
-        return print::print_too_long(rt);
+fn replay_input(rt: &HostRuntime) -> Result<(), Failure> {
+    let mut room = room();
+    let mut stdin = rt.stdin();
+    let list = read_list(&mut stdin, &mut room).map_err(Failure::Read)?;
+    if has_more(&mut stdin).map_err(Failure::Read)? {
+        return print::print_too_long(rt).map_err(Failure::Write);
     }
-    tally::replay(rt, list)
-}
-
-// Says on standard error what failed.
-fn fail(rt: &impl Eprint, what: &str, error: io::Error) -> io::Result<()> {
-    eprintln!(rt; "{what}: {error}")
+    tally::replay(rt, list).map_err(Failure::Write)
 }
 
 fn main(rt: HostRuntime) -> io::Result<()> {
-    let mut list = room();
-    let mut stdin = rt.stdin();
-    let n = match read_list(&mut stdin, &mut list) {
-        Ok(n) => n,
-        Err(error) => return fail(&rt, "read", error),
-    };
-    let more = match read_more(&mut stdin) {
-        Ok(more) => more,
-        Err(error) => return fail(&rt, "read", error),
-    };
-    match replay_whole(&rt, &list[..n], more) {
+    match replay_input(&rt) {
         Ok(()) => Ok(()),
-        Err(error) => fail(&rt, "write", error),
+        Err(failure) => eprintln!(&rt; "{failure}"),
     }
 }

@@ -1,26 +1,30 @@
 // Lines of text on standard output. Each function fails where not all of it was written.
-use std::io;
+use crate::tally::Counts;
+use std::{fmt, io};
 
-fn print_number(rt: &impl Print, n: u64, after: char) -> io::Result<()> {
-    print!(rt; "{n}{after}")
+impl fmt::Display for Counts {
+    fn fmt<W: fmt::Write>(&self, f: &mut fmt::Formatter<W>) -> fmt::Result {
+        write!(f, "{} {}", self.same, self.different)
+    }
 }
 
 pub fn print_too_long(rt: &impl Print) -> io::Result<()> {
     println!(rt; "the list is longer than 1048576 bytes")
 }
 
-pub fn print_differs(rt: &impl Print, line: u64) -> io::Result<()> {
+pub fn print_differs(rt: &impl Print, line: usize) -> io::Result<()> {
     println!(rt; "line {line} differs")
 }
 
-pub fn print_counts(rt: &impl Print, call: usize, same: u64, different: u64) -> io::Result<()> {
-    print!(rt; "{call:02x} ")?;
-    print_number(rt, same, ' ')?;
-    print_number(rt, different, '\n')
+pub fn print_counts(rt: &impl Print, call: usize, counts: &Counts) -> io::Result<()> {
+    println!(rt; "{call:02x} {counts}")
 }
 
-pub fn print_total(rt: &impl Print, same: u64, different: u64) -> io::Result<()> {
-    print!(rt; "total ")?;
-    print_number(rt, same, ' ')?;
-    print_number(rt, different, '\n')
+// Lines that could not be read are counted as different, under the number that no call has.
+pub fn print_unreadable(rt: &impl Print, lines: u64) -> io::Result<()> {
+    println!(rt; "00 0 {lines}")
+}
+
+pub fn print_total(rt: &impl Print, total: &Counts) -> io::Result<()> {
+    println!(rt; "total {total}")
 }

@@ -1,39 +1,72 @@
 // The walk over the list's lines, and the counts.
-ghost use Rattle.std.specs.Prelude.{◌≡◌, ◌+◌, ◌%◌, ◌^◌, ◌<◌, slice_index, slice_set};
-ghost use Rattle.replay.specs.Line.{call_numbers};
+ghost use Rattle.std.specs.Prelude.{◌≡◌};
+ghost use Rattle.replay.specs.Tally.{one_more, noted};
 
-use crate::calls::CALLS;
+use crate::call_number::CALLS;
 use crate::line::{Judgement, judge};
-use crate::print::{print_counts, print_differs, print_total};
-use crate::text::find;
+use crate::print::{print_counts, print_differs, print_total, print_unreadable};
 use std::io;
 
-// One more of a call. A list has fewer than 2^64 lines.
-fn count(counts: &mut [u64; CALLS], call: usize)
-    requires { call < call_numbers }
-    ensures { counts.new
-        ≡ slice_set counts.old call ((slice_index counts.old call + 1) % 2 ^ 64) }
-{
-    counts[call] = std::num::wrapping_add_u64(counts[call], 1);
+// How many lines were the same, and how many were different.
+#[derive(Clone, Copy, Default)]
+pub struct Counts {
+    pub same: u64,
+    pub different: u64,
 }
 
-// Counts a line, and answers whether it differs.
-fn note(line: &[u8], same: &mut [u64; CALLS], different: &mut [u64; CALLS]) -> bool {
-    match judge(line) {
-        Judgement::Comment => false,
-        Judgement::Same(call) => {
-            count(same, call);
-            false
+// The counts of the calls, by their numbers, and the number of lines that could not be read.
+#[derive(Drop)]
+struct Tally {
+    calls: [Counts; CALLS],
+    unreadable: u64,
+}
+
+// One more. A list has fewer than 2^64 lines.
+fn count(n: &mut u64)
+    ensures { n.new ≡ one_more n.old }
+{
+    *n = n.wrapping_add(1);
+}
+
+impl Tally {
+    #[tactic(auto, unfolding(crate::specs::Tally::noted))]
+    fn note(&mut self, judgement: Judgement)
+        ensures { self.new ≡ noted judgement self.old }
+    {
+        match judgement {
+            Judgement::Comment => {}
+            Judgement::Unreadable => count(&mut self.unreadable),
+            Judgement::Same(call) => count(&mut self.calls[call.value].same),
+            Judgement::Different(call) => count(&mut self.calls[call.value].different),
         }
-        Judgement::Different(call) => {
-            count(different, call);
-            true
+    }
+
+    fn total(&self) -> Counts {
+        let mut total = Counts {
+            same: 0,
+            different: self.unreadable,
+        };
+        for counts in &self.calls {
+            total.same = total.same.wrapping_add(counts.same);
+            total.different = total.different.wrapping_add(counts.different);
         }
+        total
+    }
+
+    // A line for each call, one for the lines that could not be read, where there are any, and the total.
+    fn print(&self, rt: &impl Print) -> io::Result<()> {
+        for (call, counts) in self.calls.iter().enumerate().skip(1) {
+            print_counts(rt, call, counts)?;
+        }
+        if self.unreadable != 0 {
+            print_unreadable(rt, self.unreadable)?;
+        }
+        print_total(rt, &self.total())
     }
 }
 
 // Prints the number of a line that differs, where it is one of the first ten.
-fn show(rt: &impl Print, line: u64, differing: u64) -> io::Result<()> {
+fn show(rt: &impl Print, line: usize, differing: u64) -> io::Result<()> {
     if 10 < differing {
         return Ok(());
     }
@@ -41,60 +74,24 @@ fn show(rt: &impl Print, line: u64, differing: u64) -> io::Result<()> {
 }
 
 // Counts every line.
-fn walk(
-    rt: &impl Print,
-    text: &[u8],
-    same: &mut [u64; CALLS],
-    different: &mut [u64; CALLS],
-) -> io::Result<()> {
-    let mut at: usize = 0;
-    let mut line: u64 = 0;
+fn walk(rt: &impl Print, text: &[u8], tally: &mut Tally) -> io::Result<()> {
     let mut differing: u64 = 0;
-    while at < text.len() {
-        let end = find(text, at, b'\n');
-        line = std::num::wrapping_add_u64(line, 1);
-        if note(&text[at..end], same, different) {
-            differing = std::num::wrapping_add_u64(differing, 1);
-            show(rt, line, differing)?;
+    for (i, line) in text.split_inclusive(|b| *b == b'\n').enumerate() {
+        let judgement = judge(line.strip_suffix(b"\n").unwrap_or(line));
+        tally.note(judgement);
+        if matches!(judgement, Judgement::Unreadable | Judgement::Different(_)) {
+            count(&mut differing);
+            show(rt, i.wrapping_add(1), differing)?;
         }
-        at = end + 1;
     }
     Ok(())
-}
-
-fn sum_of(counts: &[u64; CALLS]) -> u64 {
-    let mut total: u64 = 0;
-    let mut i: usize = 0;
-    while i < CALLS {
-        total = std::num::wrapping_add_u64(total, counts[i]);
-        i += 1;
-    }
-    total
-}
-
-// The lines of the calls from 1 on.
-fn print_calls(rt: &impl Print, same: &[u64; CALLS], different: &[u64; CALLS]) -> io::Result<()> {
-    let mut call: usize = 1;
-    while call < CALLS {
-        print_counts(rt, call, same[call], different[call])?;
-        call += 1;
-    }
-    Ok(())
-}
-
-// The line of the lines that could not be read, where there are any.
-fn print_unreadable(rt: &impl Print, different: u64) -> io::Result<()> {
-    if different == 0 {
-        return Ok(());
-    }
-    print_counts(rt, 0, 0, different)
 }
 
 pub fn replay(rt: &impl Print, text: &[u8]) -> io::Result<()> {
-    let mut same = [0u64; CALLS];
-    let mut different = [0u64; CALLS];
-    walk(rt, text, &mut same, &mut different)?;
-    print_calls(rt, &same, &different)?;
-    print_unreadable(rt, different[0])?;
-    print_total(rt, sum_of(&same), sum_of(&different))
+    let mut tally = Tally {
+        calls: [Counts::default(); CALLS],
+        unreadable: 0,
+    };
+    walk(rt, text, &mut tally)?;
+    tally.print(rt)
 }

@@ -1,14 +1,16 @@
 // Calls 01 to 07, 0b and 39: the byte cursor, box headers, and four bytes as a word.
-use super::arguments::byte;
+use super::Call;
+use crate::item::Item;
 use capi::bytes::{
     capi_byte_new, capi_header, capi_position, capi_remaining, capi_seek, capi_skip, capi_u8,
     capi_u32, capi_word_of,
 };
 
-pub fn worded(call: usize, args: &[u64; 10], s: &[u8], words: &mut [u64]) -> i64 {
-    let at = args[0] as usize;
-    let to = args[1] as usize;
-    match call {
+pub fn worded(call: &Call, words: &mut [u64]) -> i64 {
+    let s = call.data;
+    let at = call.args[0] as usize;
+    let to = call.args[1] as usize;
+    match call.number.value {
         0x01 => capi_byte_new(words),
         0x02 => capi_position(at, words),
         0x03 => capi_remaining(s, at, words),
@@ -20,6 +22,7 @@ pub fn worded(call: usize, args: &[u64; 10], s: &[u8], words: &mut [u64]) -> i64
     }
 }
 
-pub fn word_of(args: &[u64; 10]) -> i64 {
-    capi_word_of(byte(args[0]), byte(args[1]), byte(args[2]), byte(args[3]))
+pub fn word_of(call: &Call) -> i64 {
+    let [a, b, c, d, ..] = call.args;
+    capi_word_of(u8::low(a), u8::low(b), u8::low(c), u8::low(d))
 }

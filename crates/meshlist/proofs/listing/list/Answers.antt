@@ -1,19 +1,7 @@
--- `list` is safe: there are words for each line. Assumes nothing.
-use mathlib.Core.Path.{◌≡◌}
-use Prim.Native.Nat.{ℕ, ◌*◌, ◌≤◌}
-use Rattle.meshlist.specs.Listing.{record_lines, texture_lines}
-use Rattle.meshlist.specs.declared.listing.Listing.{Listing}
-use Rattle.meshlist.specs.declared.listing.Listing.TheVariants as L
+-- `list` is safe: the buffers are never too short. Assumes nothing.
+use Rattle.meshlist.proofs.RefusalProofs.{never_short}
 use Rattle.meshlist.proofs.listing.list.Goals as goal
 
-lines : (r : Listing) (m k p t a b : ℕ) → r ≡ L.Counts m k p t → (5 * record_lines r ≤ a) × (2 * texture_lines r ≤ b)
-    → (5 * k ≤ a) × (2 * t ≤ b)
-lines r m k p t a b e h = rw e at h
-
-pub print_records-requires : goal.print_records-requires
-print_records-requires g c =
-    (lines c.list_payload.result _ _ _ _ _ _ c.in-Counts.is c.list_payload.ensures.lines).0
-
-pub print_textures-requires : goal.print_textures-requires
-print_textures-requires g c =
-    (lines c.list_payload.result _ _ _ _ _ _ c.in-Counts.is c.list_payload.ensures.lines).1
+pub unreachable-requires : goal.unreachable-requires
+unreachable-requires g c =
+    never_short c.args.payload.now _ _ c.in-Err-Needs.field-0-is c.in-Err-Needs.ensures.answer
