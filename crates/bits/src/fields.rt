@@ -21,22 +21,14 @@ pub struct BitCursor {
 fn bits_in(s: &[u8]) -> usize
     ensures { result ≡ room s.now }
 {
-    let n = s.len();
-    if n < 0x2000_0000_0000_0000 {
-        return n * 8;
-    }
-    usize::MAX
+    s.len().saturating_mul(8)
 }
 
 // How many bits are left from a place on.
 fn bits_left(s: &[u8], bit: usize) -> usize
     ensures { result ≡ room s.now - bit }
 {
-    let all = bits_in(s);
-    if all < bit {
-        return 0;
-    }
-    all - bit
+    bits_in(s).saturating_sub(bit)
 }
 
 // Five bytes as a number, big end first.
@@ -164,10 +156,9 @@ impl BitCursor {
     pub fn new(byte: usize) -> Self
         ensures { result.bit ≡ capped (8 * byte) }
     {
-        if byte < 0x2000_0000_0000_0000 {
-            return BitCursor { bit: byte * 8 };
+        BitCursor {
+            bit: byte.saturating_mul(8),
         }
-        BitCursor { bit: usize::MAX }
     }
 
     // A field of width bits. The width is tested before anything is read.

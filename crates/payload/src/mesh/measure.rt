@@ -14,6 +14,7 @@ ghost use Rattle.payload.specs.Tables.{table_lengths, body_read, table_lengths_s
 
 use super::MESH;
 use super::fields::{one_field, pool_word, word};
+use super::head::submeshes_at;
 use bits::{BoxHeader, ByteCursor, Refusal, Run};
 
 // How much there is of a mesh list: its meshes, submeshes and points, and the lengths of its drawing's three lists.
@@ -81,7 +82,7 @@ fn check_submeshes(
 {
     let mut bit = p;
     let mut points: usize = 0;
-    for i in 0..count {
+    for _ in 0..count {
         let submesh = check_submesh(s, bit, w, m)?;
         points += submesh.points as usize;
         bit = submesh.bit;
@@ -129,9 +130,9 @@ fn check_from_vertices(s: &[u8], n: u32, m: u32) -> Result<BodySize, Refusal>
         count: m,
     };
     bits::check_fives(s, run)?;
-    let end = start + 5 * (m as usize) * (bits::bit_width(n) as usize);
+    let place = submeshes_at(n as usize, 5 * (m as usize));
     let v = bits::bit_width(m) as usize;
-    let size = check_submesh_list(s, (end + 7) / 8 * 8, v, m)?;
+    let size = check_submesh_list(s, place, v, m)?;
     Ok(BodySize {
         vertices: m,
         submeshes: size.submeshes,

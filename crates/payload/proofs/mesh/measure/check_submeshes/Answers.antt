@@ -7,8 +7,8 @@ use Rattle.payload.proofs.RangeLaws.{width_some}
 use Rattle.payload.proofs.CheckLaws.{submesh_end, counted, counted_all, counted_end, counted_declined, counted_on}
 use Rattle.payload.proofs.mesh.measure.check_submeshes.Goals as goal
 
-pub loop-i-init : goal.loop-i-init
-loop-i-init c =
+pub loop-init : goal.loop-init
+loop-init c =
     let a = c.args in
     let z : a.count ≡ a.count - 0 = omega arith in
     let all = counted_all a.s.now a.w a.m a.count a.p
@@ -18,31 +18,31 @@ loop-i-init c =
 pub returns-in_err-submesh : goal.returns-in_err-submesh
 returns-in_err-submesh c =
     let a = c.args in
-    let l = c.loop-i in
+    let l = c.loop in
     passed _ _ _ c.from_residual.ensures.1
     ∙ sym (l.invariant.same
-    ∙ counted_declined a.s.now a.w a.m a.count l.points (a.count - l.i) l.bit _ (omega arith) c.in_err-submesh.ensures)
+    ∙ counted_declined a.s.now a.w a.m a.count l.points (a.count - l.counter) l.bit _ (omega arith) c.in_err-submesh.ensures)
 
 pub overflow_add-points : goal.overflow_add-points
 overflow_add-points c =
     let a = c.args in
     let q = c.requires in
     let e = c.in_ok-submesh.ensures in
-    let after = submesh_end a.s.now a.w a.m c.loop-i.bit _ _ (rw q.wide (width_some a.m q.some)) e in
-    omega (arith, after, c.loop-i.invariant.few)
+    let after = submesh_end a.s.now a.w a.m c.loop.bit _ _ (rw q.wide (width_some a.m q.some)) e in
+    omega (arith, after, c.loop.invariant.few)
 
-pub loop-i-preserved : goal.loop-i-preserved
-loop-i-preserved c =
+pub loop-preserved : goal.loop-preserved
+loop-preserved c =
     let a = c.args in
-    let l = c.loop-i in
+    let l = c.loop in
     let q = c.requires in
     let e = c.in_ok-submesh.ensures in
     let after = c.in_ok-submesh.submesh in
     let end = submesh_end a.s.now a.w a.m l.bit _ _ (rw q.wide (width_some a.m q.some)) e in
-    let x : a.count - l.i - 1 ≡ a.count - (l.i + 1) = omega arith in
+    let x : a.count - l.counter - 1 ≡ a.count - (l.counter + 1) = omega arith in
     record {
       same = l.invariant.same
-          ∙ counted_on a.s.now a.w a.m a.count l.points (a.count - l.i) l.bit _ _ (omega arith) e
+          ∙ counted_on a.s.now a.w a.m a.count l.points (a.count - l.counter) l.bit _ _ (omega arith) e
           ∙ ap (λ (n : ℕ). mapped (counted a.count (l.points + after.points)) (many (read_submesh a.s.now a.w a.m) n after.bit)) x;
       low = omega (arith, end, l.invariant.low);
       inside = omega (arith, end);
@@ -52,5 +52,5 @@ loop-i-preserved c =
 pub returns : goal.returns
 returns c =
     let a = c.args in
-    let l = c.loop-i in
-    sym (l.invariant.same ∙ counted_end a.s.now a.w a.m a.count l.points (a.count - l.i) l.bit (omega arith))
+    let l = c.loop in
+    sym (l.invariant.same ∙ counted_end a.s.now a.w a.m a.count l.points (a.count - l.counter) l.bit (omega arith))
