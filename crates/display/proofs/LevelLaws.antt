@@ -31,9 +31,17 @@ unmet_is level ws = sym (is_count_by (unmet_at level) (λ (w : ℕ). ltb level w
     go w n (inl g) = rw (le-ltb level w g) (omega arith)
     go w n (inr g) = rw (lt-ltb level w g) (omega arith)
 
--- ---- the lowest from the front
+-- ---- counting, and the lowest, from the front
 
 module _ (level : ℕ) (ws : List ℕ) (i : ℕ) where
+  pub unmet_first : i < length ws → unmet_at level (drop i ws) ≡ min 1 (get_or ws i 0 - level) + unmet_at level (drop (i + 1) ws)
+  unfolding unmet_at
+  unmet_first h = rw (rest-cons ws i h)
+
+  pub unmet_end : length ws ≤ i → unmet_at level (drop i ws) ≡ 0
+  unfolding unmet_at
+  unmet_end h = rw (rest-none ws i h)
+
   pub lowest_first : i < length ws → level < get_or ws i 0 → lowest_above level (drop i ws) ≡ min (get_or ws i 0) (lowest_above level (drop (i + 1) ws))
   unfolding lowest_above
   lowest_first h g = rw (rest-cons ws i h, lt-ltb level (get_or ws i 0) g)

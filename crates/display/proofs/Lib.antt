@@ -15,6 +15,7 @@ pub mod DecidesProofs
 pub mod NumberedRecordLaws
 pub mod ShownListLaws
 pub mod ShownSumLaws
+pub mod ClosingLaws
 pub mod ShownCallLaws
 pub mod ShownProofs
 pub mod ShownMarkedProofs

@@ -6,10 +6,8 @@ use mathlib.Core.Bool.{Bool, true, false, cond, ◌&&◌}
 use native.Mathlib.Numerals.{add-one}
 use native.Mathlib.Omega.{arith}
 use lib.ListN.{length, take, drop, set, length-append}
-use lib.Seq.{set_split, append_snoc, take-take}
-use Rattle.std.specs.List.{copy_within}
+use lib.Seq.{sets, sets-eq, slice, length-slice, set_split, append_snoc, take-take}
 use Rattle.std.specs.Prelude.{Ok}
-use Rattle.std.proofs.lemmas.Slice.{between_is}
 use borrow.Author.Tests.{lt-ltb, le-ltb, ltb-true}
 use Rattle.bits.specs.Refusals.{among}
 use Rattle.bits.specs.Verdict.{Verdict, accepted, declined}
@@ -178,17 +176,16 @@ module _ (words : List ℕ) (s : Shown) (n : ℕ) {r : ℕ} (e : accepted r ≡ 
       taken_out = hides ∙ rw (there h)
 
       -- the numbers that stay, as the code moves them up
-      stay : without n (shown_numbers s) ≡ take r s.entries ++ take (s.count - (r + 1)) (drop (r + 1) s.entries)
+      stay : without n (shown_numbers s) ≡ take r s.entries ++ slice (r + 1) s.count s.entries
       stay =
           without_there n (shown_numbers s)
           ∙ rw (← K.place)
-          (ap₂ (λ (a b : List ℕ). a ++ b) (take-take r s.count s.entries (omega arith))
-          (rw add-one (sym (between_is s.entries (suc r) s.count))))
+          (ap₂ (λ (a b : List ℕ). a ++ b) (take-take r s.count s.entries (omega arith)) (rw add-one))
 
       pub hide_total : s.total ≡ points_of words n + points_of_all words (without n (shown_numbers s))
       hide_total = K.usable.total ∙ points_without words n (shown_numbers s) (there h)
 
-      pub hide_done : (l : List ℕ) → l ≡ copy_within s.entries (r + 1) s.count r → (t : ℕ) → t ≡ s.total - points_of words n
+      pub hide_done : (l : List ℕ) → l ≡ sets s.entries r (slice (r + 1) s.count s.entries) → (t : ℕ) → t ≡ s.total - points_of words n
           → Answered words s (hiding n)
           (record {
             answer = Ok tt;
@@ -197,9 +194,12 @@ module _ (words : List ℕ) (s : Shown) (n : ℕ) {r : ℕ} (e : accepted r ≡ 
       hide_done l f t e =
           let z = counted in
           let m = length_without n (shown_numbers s) (there h) in
-          let k : r + (s.count - (r + 1)) ≡ length (without n (shown_numbers s)) = omega arith in
+          let few = K.usable.few in
+          let moved = slice (r + 1) s.count s.entries in
+          let d = length-slice (r + 1) s.count s.entries (omega arith) in
+          let k : r + length moved ≡ length (without n (shown_numbers s)) = omega arith in
           done words s (hiding n) (without n (shown_numbers s)) _ _ _ taken_out
-          (f
+          (f ∙ sets-eq moved s.entries r (omega arith)
           ∙ ap₂ (λ (a : List ℕ) (j : ℕ). a ++ drop j s.entries) (sym stay) k)
           (omega arith)
           (omega (arith, hide_total))

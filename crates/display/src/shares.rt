@@ -15,7 +15,13 @@ fn unmet(wishes: &[u32], level: u32) -> u32
     requires { length wishes.now ≤ 8 }
     ensures { result ≡ unmet_at level wishes.now }
 {
-    wishes.iter().filter(|wish| level < **wish).count() as u32
+    let mut count = 0;
+    for wish in wishes {
+        if level < *wish {
+            count += 1;
+        }
+    }
+    count
 }
 
 // The lowest wish above a level; 1,000,000 where there is none.
@@ -89,7 +95,9 @@ fn deal(height: u32, points: u32, wishes: &[u32], shares: &mut [u32])
 fn all_in_range(numbers: &[u32]) -> bool
     ensures { result ≡ all_below 1000000 numbers.now }
 {
-    numbers.iter().all(|number| *number < 1_000_000)
+    numbers
+        .iter()
+        .fold(true, |all, number| all & (*number < 1_000_000))
 }
 
 // One to eight windows, and every number below a million.

@@ -1,6 +1,8 @@
 // Submeshes shown and hidden: the numbers of the records that are shown, in the order they were shown, and the total
 // of their points. The list goes from call to call by value, and each call judges it whole before it changes it.
-ghost use Rattle.std.specs.Prelude.{◌≡◌, ◌≤◌, ◌<◌, length};
+ghost use Rattle.std.specs.Prelude.{◌≡◌, ◌+◌, ◌≤◌, ◌<◌, length};
+ghost use Rattle.std.proofs.lemmas.List.Edits.{sets};
+ghost use Rattle.std.proofs.Math.Seq.{slice};
 ghost use Rattle.bits.specs.Refusals.{among};
 ghost use Rattle.payload.specs.Firsts.{place_of};
 ghost use Rattle.payload.specs.Records.{records_in};
@@ -162,6 +164,18 @@ pub fn show(shown: Shown, number: u32, records: &[u32]) -> ShownAnswer
     }
 }
 
+// The entries behind a place, up to an end, move up by one. A loop, and no `copy_within`, so that a number that is left
+// behind falls to the loop's invariant (must-fail/hole_not_closed.edit).
+fn close_up(entries: &mut [u32; 64], place: usize, end: usize)
+    requires { (place < end) × (end ≤ 64) × (length entries.old ≡ 64) }
+    ensures { entries.new
+        ≡ sets entries.old place (slice (place + 1) end entries.old) }
+{
+    for from in place + 1..end {
+        entries[from - 1] = entries[from];
+    }
+}
+
 // Takes a record's number out, the rest closing up: 19, 20, or the list without it.
 pub fn hide(shown: Shown, number: u32, records: &[u32]) -> ShownAnswer
     ensures answer { change_says result.answer
@@ -177,7 +191,7 @@ pub fn hide(shown: Shown, number: u32, records: &[u32]) -> ShownAnswer
         return refuse(Refusal::NotShown, shown);
     }
     let mut entries = shown.entries;
-    entries.copy_within(place + 1..count, place);
+    close_up(&mut entries, place, count);
     let left = shown.total - points_of(records, number) as u64;
     ShownAnswer {
         answer: Ok(()),

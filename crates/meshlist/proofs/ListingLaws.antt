@@ -87,7 +87,7 @@ module _ (s : List ℕ) (h : length s ≤ 16384) where
   -- ---- what the records call says
 
   module _ (records : List ℕ) (k : 13650 ≤ length records) where
-    records_told : answer_for (records_plan s) (records ∷ []) ≡ mapped list_counts (listed s)
+    pub records_told : answer_for (records_plan s) (records ∷ []) ≡ mapped list_counts (listed s)
     unfolding answer_for
     records_told =
         ap (λ (v : Verdict (List Mesh)). answer_for (mapped recorded_meshes v) (records ∷ [])) listed_is
@@ -100,12 +100,12 @@ module _ (s : List ℕ) (h : length s ≤ 16384) where
         go (declined d) e = refl
 
     -- it is refused with the payload's number, and leaves its buffer
-    records_refused : (d : ℕ) → listed s ≡ declined d → buffers_after (records_plan s) (records ∷ []) ≡ records ∷ []
+    pub records_refused : (d : ℕ) → listed s ≡ declined d → buffers_after (records_plan s) (records ∷ []) ≡ records ∷ []
     records_refused d e =
         sym (refused (records_plan s) (records ∷ []) d (ap (mapped recorded_meshes) (listed_is ∙ e))).1
 
   -- it never asks for more words
-  never_more : (l : List ℕ) → mapped list_counts (listed s) ≡ needs l → ⊥
+  pub never_more : (l : List ℕ) → mapped list_counts (listed s) ≡ needs l → ⊥
   never_more l e = never_needs s l (sym (limited_yes s (read_meshes s) (omega arith)) ∙ listed_is ∙ go (listed s) e)
     where
       go : (v : Verdict (List Mesh)) → mapped list_counts v ≡ needs l → v ≡ needs l
@@ -120,12 +120,12 @@ pub record Counted (v : Verdict (List Mesh)) (n : ListCounts) : Type 0 where
   pub read : v ≡ accepted meshes
   pub counts : (n.meshes, n.submeshes, n.points) ≡ list_counts meshes
 
-counted : (v : Verdict (List Mesh)) (n : ListCounts) → records_says (Ok n) ≡ mapped list_counts v → Counted v n
+pub counted : (v : Verdict (List Mesh)) (n : ListCounts) → records_says (Ok n) ≡ mapped list_counts v → Counted v n
 counted (accepted l) n e = record { meshes = l; read = refl; counts = cc }
 counted (needs l) n e = clash (cc)
 counted (declined d) n e = clash (cc)
 
-declined_so : (v : Verdict (List Mesh)) (d : ℕ) → declined d ≡ mapped list_counts v → v ≡ declined d
+pub declined_so : (v : Verdict (List Mesh)) (d : ℕ) → declined d ≡ mapped list_counts v → v ≡ declined d
 declined_so (accepted l) d e = clash (cc)
 declined_so (needs l) d e = clash (cc)
 declined_so (declined k) d e = let i : k ≡ d = cc in ap declined i

@@ -196,7 +196,7 @@ module _ (pool coordinates rows points : List ℕ) where
   Declines = declined 13 ≡ mapped length (mesh_written pool coordinates rows points)
 
   -- whatever contradicts what the tests tell
-  judged_not : (Told pool coordinates rows points → ⊥) → Declines
+  pub judged_not : (Told pool coordinates rows points → ⊥) → Declines
   judged_not h =
       ap (mapped length) (sym (written_no pool coordinates rows points
       (refuse (is_mesh pool coordinates rows points) (λ e. h (told pool coordinates rows points e)))))
@@ -271,10 +271,10 @@ module _ (pool coordinates rows points : List ℕ) (size : ℕ) (r : rows_all_fi
     (s : size ≡ size_of (length pool) (length coordinates) (length coordinates / 5) (length rows / 3) (length points))
     (c : counts_fit (length pool) (length coordinates) (length rows) ≡ true) (most : size ≤ 67108864)
     (a : all_below (length pool) coordinates ≡ true) (b : all_below (length coordinates / 5) points ≡ true) where
-  box_told : size ≡ box_size (tables_mesh pool coordinates rows points)
+  pub box_told : size ≡ box_size (tables_mesh pool coordinates rows points)
   box_told = s ∙ sym (size_is pool coordinates rows points r)
 
-  all_told : is_mesh pool coordinates rows points ≡ true
+  pub all_told : is_mesh pool coordinates rows points ≡ true
   all_told =
       let t = counts_told (length pool) (length coordinates) (length rows) c in
       let n = box_told in

@@ -72,7 +72,7 @@ step_fits n last next hl hn = go (dec_le last next)
     go (no h) = omega (arith, step_down last next (omega arith))
 
 -- twice the step, modulo 2^32, or its complement
-step_least : (last next twice : ℕ) → last < 65536 → next < 65536 → twice ≤ 4294967295
+pub step_least : (last next twice : ℕ) → last < 65536 → next < 65536 → twice ≤ 4294967295
     → (twice + 2 * last) % 4294967296 ≡ 2 * next → min twice (4294967295 - twice) ≡ step_field last next
 step_least last next twice a b c e = go (dec_le last next)
   where

@@ -115,11 +115,11 @@ module _ {w t : MeshWalk} {m : ReadMesh} (T : TakenMesh w m t) (j : ℕ) where
   unfolding standing_from
   by_first = ap (λ (l : List Mesh). standing_from w.s.now w.at l j) T.is ∙ rw (T.list, T.after, ← T.there)
 
-  in_first : j < length (mesh_read m.s.now).submeshes
+  pub in_first : j < length (mesh_read m.s.now).submeshes
       → standing_in w j ≡ mapped (standing_at (spot m.body m.end)) (submesh_in (mesh_read m.s.now) j)
   in_first h = by_first ∙ rw (lt-ltb j (length (mesh_read m.s.now).submeshes) h)
 
-  in_others : length (mesh_read m.s.now).submeshes ≤ j
+  pub in_others : length (mesh_read m.s.now).submeshes ≤ j
       → standing_in w j ≡ standing_in t (j - length (mesh_read m.s.now).submeshes)
   in_others h = by_first ∙ rw (le-ltb j (length (mesh_read m.s.now).submeshes) h)
 

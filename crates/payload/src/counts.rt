@@ -9,7 +9,10 @@ use bits::Refusal;
 fn product(a: u64, b: u64) -> Result<u64, Refusal>
     ensures { counted_says result ≡ counted (a * b) }
 {
-    a.checked_mul(b).ok_or(Refusal::CountTooLarge)
+    match a.checked_mul(b) {
+        Some(n) => Ok(n),
+        None => Err(Refusal::CountTooLarge),
+    }
 }
 
 // The vertices of a sphere's grid, which has one line more than cells each way.

@@ -1,7 +1,7 @@
 // The calls, by what they are lent. Before a call every lent item holds bytes a5. An answer sums up what was lent as
 // it is after the call: the words first, then the buffers. Which call is made goes by its number, since the list names
 // it so: a closure for each would say the same at greater length.
-ghost use Rattle.std.specs.Prelude.{◌≡◌};
+ghost use Rattle.std.specs.Prelude.{◌≡◌, ◌≤◌, IfSome};
 ghost use Rattle.std.specs.Int.{w64};
 ghost use Rattle.std.proofs.Common.{of_z};
 ghost use mathlib.Core.List.{flat_map};
@@ -65,6 +65,17 @@ impl Answer {
 // The words that are lent, as they are before a call.
 const WORDS: [u64; 8] = [u64::LENT; 8];
 
+// A length of what is to be lent, where it is no more than there is room for. It is judged before room is made, which
+// is filled.
+fn within(length: u64, most: usize) -> Option<usize>
+    ensures { IfSome result (λ n. n ≤ most) }
+{
+    if (most as u64) < length {
+        return None;
+    }
+    Some(length as usize)
+}
+
 // A call of a line. Arguments that it has not are 0.
 #[derive(Clone, Copy)]
 pub struct Call<'a> {
@@ -105,9 +116,10 @@ impl Call<'_> {
 
     // The calls that write bytes.
     fn written(&self, length: u64) -> Option<Answer> {
+        let n = within(length, 1024)?;
         let mut words = WORDS;
         let mut room = [u8::LENT; 1024];
-        let out = room.get_mut(..length as usize)?;
+        let out = &mut room[..n];
         let code = match self.number.value {
             0x13 | 0x14 => put::write(self, out, &mut words),
             _ => crops::write(self, out, &mut words),
@@ -117,25 +129,32 @@ impl Call<'_> {
 
     // The calls that make numbers.
     fn indexed(&self, length: u64) -> Option<Answer> {
+        let n = within(length, 4096)?;
         let mut words = WORDS;
         let mut room = [u16::LENT; 4096];
-        let out = room.get_mut(..length as usize)?;
+        let out = &mut room[..n];
         let code = grids::indices(self, out, &mut words);
         Some(Answer::new(code).with(&words).with(out))
     }
 
     // The calls that hand out the numbers of a run, which are lent no words.
     fn run(&self, length: u64) -> Option<Answer> {
+        let n = within(length, 4096)?;
         let mut room = [u16::LENT; 4096];
-        let out = room.get_mut(..length as usize)?;
+        let out = &mut room[..n];
         let code = runs::fill(self, out);
         Some(Answer::new(code).with(out))
     }
 
-    // The calls that make floats, records, textures or an empty list alone, as many as there is room for at most.
-    fn tabled(&self, room: &mut [u32], length: u64) -> Option<Answer> {
+    // The calls that make floats, records, textures or an empty list alone, so many at most. The room is made here: in
+    // `make` it would be filled for every line, whatever its call.
+    fn tabled(&self, length: u64, most: usize) -> Option<Answer>
+        requires { most ≤ 4096 }
+    {
+        let n = within(length, most)?;
         let mut words = WORDS;
-        let out = room.get_mut(..length as usize)?;
+        let mut room = [u32::LENT; 4096];
+        let out = &mut room[..n];
         let code = match self.number.value {
             0x22 => capi_mesh_records(self.data, out, &mut words),
             0x3f => capi_texture_points(self.data, out, &mut words),
@@ -147,13 +166,16 @@ impl Call<'_> {
 
     // The calls that make numbers, floats and records.
     fn drawn(&self, number_length: u64, float_length: u64, record_length: u64) -> Option<Answer> {
+        let n = within(number_length, 4096)?;
+        let f = within(float_length, 4096)?;
+        let k = within(record_length, 512)?;
         let mut words = WORDS;
         let mut number_room = [u16::LENT; 4096];
         let mut float_room = [u32::LENT; 4096];
         let mut record_room = [u32::LENT; 512];
-        let numbers = number_room.get_mut(..number_length as usize)?;
-        let floats = float_room.get_mut(..float_length as usize)?;
-        let records = record_room.get_mut(..record_length as usize)?;
+        let numbers = &mut number_room[..n];
+        let floats = &mut float_room[..f];
+        let records = &mut record_room[..k];
         let code = match self.number.value {
             0x21 => capi_parse_meshes(self.data, numbers, floats, records, &mut words),
             _ => scene_call::scene(self, numbers, floats, records, &mut words),
@@ -174,9 +196,9 @@ impl Call<'_> {
             0x1d => self.indexed(args[1]),
             0x37 => self.run(args[3]),
             0x38 => self.run(args[2]),
-            0x1c => self.tabled(&mut [u32::LENT; 4096], args[2]),
-            0x1e => self.tabled(&mut [u32::LENT; 4096], args[3]),
-            0x22 | 0x3f | 0x40 => self.tabled(&mut [u32::LENT; 512], args[0]),
+            0x1c => self.tabled(args[2], 4096),
+            0x1e => self.tabled(args[3], 4096),
+            0x22 | 0x3f | 0x40 => self.tabled(args[0], 512),
             0x21 => self.drawn(args[0], args[1], args[2]),
             0x25 => self.drawn(args[6], args[7], args[8]),
             0x23 | 0x24 => meshes::body(self),

@@ -1,5 +1,5 @@
 // A line of the list: its call, its arguments, its data, and the answer that is due.
-ghost use Rattle.std.specs.Prelude.{◌≡◌};
+ghost use Rattle.std.specs.Prelude.{◌≡◌, ◌≤◌, IfSome, length};
 ghost use Rattle.replay.specs.Line.{judged};
 
 use crate::call_number::CallNumber;
@@ -59,7 +59,9 @@ fn read_arguments(tokens: &mut Tokens, call: usize) -> Option<[u64; 10]> {
 }
 
 // Reads a line that is no comment. Its data is stored in the room.
-fn read_line<'a>(line: &[u8], room: &'a mut [u8]) -> Option<(Call<'a>, Answer)> {
+fn read_line<'a>(line: &[u8], room: &'a mut [u8]) -> Option<(Call<'a>, Answer)>
+    ensures { IfSome result (λ x. length x.0.data.now ≤ length room.old) }
+{
     let mut tokens = Tokens::of(line);
     let number = CallNumber::new(tokens.number()?)?;
     let args = read_arguments(&mut tokens, number.value)?;

@@ -230,10 +230,14 @@ pub fn write_mesh(
     ensures buffers { out.new ∷ [] ≡ buffers_after (in_items 1 (mesh_written pool.now
         coordinates.now submeshes.now points.now)) (at_entry (out ∷ [])) }
 {
-    let n = judge(pool, coordinates, submeshes, points)?;
-    if out.len() < n {
-        return Err(FillError::Needs(n));
+    match judge(pool, coordinates, submeshes, points) {
+        Err(refusal) => Err(FillError::Refused(refusal)),
+        Ok(n) => {
+            if out.len() < n {
+                return Err(FillError::Needs(n));
+            }
+            put_box(pool, coordinates, submeshes, points, n, out);
+            Ok(n)
+        }
     }
-    put_box(pool, coordinates, submeshes, points, n, out);
-    Ok(n)
 }

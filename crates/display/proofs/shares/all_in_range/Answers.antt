@@ -1,19 +1,14 @@
--- `all_in_range` meets its contract: the test of each number is that of the whole list. Assumes nothing.
-use mathlib.Core.Path.{◌≡◌, refl}
-use mathlib.Core.Bool.{Bool, true, false, cond, ◌&&◌}
-use lib.Dec.{ltb}
-use Rattle.std.proofs.Common.{rules}
-use Rattle.std.proofs.lemmas.List.Recursion.{and_is}
-use Rattle.payload.specs.MeshWrite.{all_of, all_below}
+-- `all_in_range` meets its contract: a fold over the numbers. Assumes nothing.
+use Rattle.std.proofs.Common.{◌&&◌, ltb, true, ◌∙◌, rules}
+use Rattle.std.proofs.lemmas.Iterator.{YieldsList-from_slice}
+use Rattle.std.proofs.lemmas.Iterator.Consumers.{fold_from_yields_List}
+use borrow.Author.Tests.{tests}
+use Rattle.payload.proofs.JudgeLaws.{all_folded}
 use Rattle.display.proofs.shares.all_in_range.Goals as goal
 
-both : (a b : Bool) → cond a b false ≡ (a && b)
-both true b = refl
-both false b = refl
-
 pub returns : goal.returns
-unfolding all_of
 returns c =
     let a = c.args in
-    and_is (all_below 1000000) (λ x. ltb x 1000000) refl (λ x l. both (ltb x 1000000) (all_below 1000000 l)) a.numbers.now 0 c.all.result
-    (search rules) (search rules)
+    fold_from_yields_List _ (λ b x. b && ltb x 1000000) true _ c.fold.ensures.ran (YieldsList-from_slice a.numbers.now cc)
+    (λ b x r q k. search (rules, tests))
+    ∙ all_folded (λ x. ltb x 1000000) a.numbers.now

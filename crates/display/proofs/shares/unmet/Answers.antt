@@ -1,14 +1,23 @@
--- `unmet` meets its contract: the count is one over the list. Assumes nothing.
-use Prim.Native.Nat.{ℕ}
-use mathlib.Core.Path.{◌≡◌, ◌∙◌}
-use lib.Dec.{ltb}
-use Rattle.std.proofs.Common.{rules}
-use Rattle.std.specs.List.{count_by}
-use Rattle.display.proofs.LevelLaws.{unmet_is}
+-- `unmet` meets its contract: the count so far, and what is left. Assumes nothing.
+use native.Mathlib.Omega.{arith}
+use Rattle.display.proofs.LevelLaws.{unmet_first, unmet_end}
 use Rattle.display.proofs.shares.unmet.Goals as goal
+use Rattle.display.proofs.shares.unmet.Goals.{then-level-wish, else-level-wish}
+
+pub loop-wish-init : goal.loop-wish-init
+loop-wish-init c = (omega arith, omega arith)
+
+pub loop-wish-preserved : goal.loop-wish-preserved
+loop-wish-preserved c =
+    let a = c.args in
+    let l = c.loop-wish in
+    elim c.if-level-wish.branch [
+      | then-level-wish w ↦ (omega arith, omega (arith, unmet_first a.level a.wishes.now l.wish-index (omega arith)))
+      | else-level-wish w ↦ (omega arith, omega (arith, unmet_first a.level a.wishes.now l.wish-index (omega arith)))
+    ]
 
 pub returns : goal.returns
 returns c =
     let a = c.args in
-    let counted : c.count.result ≡ count_by (λ (w : ℕ). ltb a.level w) a.wishes.now = search rules in
-    counted ∙ unmet_is a.level a.wishes.now
+    let l = c.loop-wish in
+    omega (arith, unmet_end a.level a.wishes.now l.wish-index (omega arith))

@@ -17,11 +17,10 @@ returns-then-count-place c =
     refused_call a.records.now a.shown (hiding a.number) _ _ c.refuse-then-count-place.ensures
     (not_shown a.records.now a.shown a.number c.in-Ok.ensures (omega arith) (omega arith))
 
-pub copy_within-requires : goal.copy_within-requires
-copy_within-requires c =
+pub close_up-requires : goal.close_up-requires
+close_up-requires c =
     let a = c.args in
-    let few = (known a.records.now a.shown a.number _ c.in-Ok.ensures).usable.few in
-    record { start_le_end = omega arith; in_bounds = omega arith; dest_in_bounds = omega arith; not_exhausted = tt }
+    (omega arith, (known a.records.now a.shown a.number _ c.in-Ok.ensures).usable.few, omega arith)
 
 pub points_of-requires : goal.points_of-requires
 points_of-requires c = let a = c.args in (known a.records.now a.shown a.number _ c.in-Ok.ensures).there
@@ -34,5 +33,5 @@ overflow_sub-left c =
 pub returns : goal.returns
 returns c =
     let a = c.args in
-    hide_done a.records.now a.shown a.number c.in-Ok.ensures (omega arith) (omega arith) _ c.copy_within.ensures.after
+    hide_done a.records.now a.shown a.number c.in-Ok.ensures (omega arith) (omega arith) _ c.close_up.ensures
     _ (omega arith)

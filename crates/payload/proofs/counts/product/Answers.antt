@@ -1,7 +1,10 @@
 -- `product` meets its contract. Assumes nothing.
-use Rattle.std.proofs.Common.{◌*◌}
+use Rattle.std.proofs.Common.{◌*◌, Some, None}
 use Rattle.payload.proofs.CountLaws.{product_said}
 use Rattle.payload.proofs.counts.product.Goals as goal
 
-pub returns : goal.returns
-returns c = rw c.ok_or.ensures.value (product_said (c.args.a * c.args.b) c.checked_mul.result c.checked_mul.ensures)
+pub returns-in-Some : goal.returns-in-Some
+returns-in-Some c = product_said (c.args.a * c.args.b) (Some c.in-Some.n) c.in-Some.ensures
+
+pub returns-in-None : goal.returns-in-None
+returns-in-None c = product_said (c.args.a * c.args.b) None c.in-None.ensures
