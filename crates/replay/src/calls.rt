@@ -1,7 +1,7 @@
 // The calls, by what they are lent. Before a call every lent item holds bytes a5. An answer sums up what was lent as
 // it is after the call: the words first, then the buffers. Which call is made goes by its number, since the list names
 // it so: a closure for each would say the same at greater length.
-ghost use Rattle.std.specs.Prelude.{◌≡◌, ◌≤◌, IfSome};
+ghost use Rattle.std.specs.Prelude.{◌≡◌, ◌≤◌, cond, nat_le, IfSome, Some, None};
 ghost use Rattle.std.specs.Int.{w64};
 ghost use Rattle.std.proofs.Common.{of_z};
 ghost use mathlib.Core.List.{flat_map};
@@ -68,7 +68,8 @@ const WORDS: [u64; 8] = [u64::LENT; 8];
 // A length of what is to be lent, where it is no more than there is room for. It is judged before room is made, which
 // is filled.
 fn within(length: u64, most: usize) -> Option<usize>
-    ensures { IfSome result (λ n. n ≤ most) }
+    ensures value { result ≡ cond (nat_le length most) (Some length) None }
+    ensures bound { IfSome result (λ n. n ≤ most) }
 {
     if (most as u64) < length {
         return None;
